@@ -32,19 +32,36 @@ fn words() -> &'static [Row] {
     &WORDS
 }
 
-fn numbers_of(word: &[u8]) -> (Option<u32>, Option<u32>, Option<u32>) {
-    (
-        Budget::of(word).map(Budget::lines),
-        Count::of(word).map(Count::series),
-        Cells::of(word).map(Cells::cells),
-    )
+/// Whether the word is this budget, or none.
+fn is_budget(word: &[u8], wanted: Option<u32>) -> bool {
+    match Budget::of(word) {
+        Some(budget) => wanted == Some(budget.lines()),
+        None => wanted.is_none(),
+    }
+}
+
+/// Whether it is this count, or none.
+fn is_count(word: &[u8], wanted: Option<u32>) -> bool {
+    match Count::of(word) {
+        Some(count) => wanted == Some(count.series()),
+        None => wanted.is_none(),
+    }
+}
+
+/// Whether it is this number of cells, or none.
+fn are_cells(word: &[u8], wanted: Option<u32>) -> bool {
+    match Cells::of(word) {
+        Some(cells) => wanted == Some(cells.cells()),
+        None => wanted.is_none(),
+    }
 }
 
 #[test]
 fn numbers_within(rt: HostRuntime) {
     for (word, budget, count, cells) in words() {
+        let bytes = word.as_bytes();
         assert!(rt;
-            numbers_of(word.as_bytes()) == (*budget, *count, *cells),
+            is_budget(bytes, *budget) && is_count(bytes, *count) && are_cells(bytes, *cells),
             "{word}"
         );
     }
@@ -89,7 +106,6 @@ fn has_requirement(alloc: Global) -> Result<bool, Memory> {
 }
 
 #[test]
-fn requirement_of_sample(rt: HostRuntime) -> Result<(), Memory> {
-    assert!(rt; has_requirement(rt.alloc())?);
-    Ok(())
+fn requirement_of_sample(rt: HostRuntime) {
+    assert!(rt; has_requirement(rt.alloc()) == Ok(true));
 }

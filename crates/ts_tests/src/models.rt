@@ -85,11 +85,10 @@ fn has_windows(alloc: Global) -> Result<bool, Memory> {
 }
 
 #[test]
-fn judgements_and_programs(rt: HostRuntime) -> Result<(), Memory> {
-    assert!(rt; is_judged(rt.alloc())?);
-    assert!(rt; has_program(rt.alloc())?);
-    assert!(rt; has_windows(rt.alloc())?);
-    Ok(())
+fn judgements_and_programs(rt: HostRuntime) {
+    assert!(rt; is_judged(rt.alloc()) == Ok(true));
+    assert!(rt; has_program(rt.alloc()) == Ok(true));
+    assert!(rt; has_windows(rt.alloc()) == Ok(true));
 }
 
 /// The peaks after each of the readings 0 1 0; none where no monitor was made.
@@ -114,11 +113,14 @@ fn peaks_so_far(alloc: Global) -> Result<Vec<Ext>, Memory> {
     Ok(values)
 }
 
+fn has_values(alloc: Global) -> Result<bool, Memory> {
+    let values = peaks_so_far(alloc)?;
+    Ok(values.as_slice() == [Ext::Int(0), Ext::Int(0), Ext::Int(1)].as_slice())
+}
+
 #[test]
-fn values_after_each_reading(rt: HostRuntime) -> Result<(), Memory> {
-    let values = peaks_so_far(rt.alloc())?;
-    assert!(rt; values.as_slice() == [Ext::Int(0), Ext::Int(0), Ext::Int(1)].as_slice());
-    Ok(())
+fn values_after_each_reading(rt: HostRuntime) {
+    assert!(rt; has_values(rt.alloc()) == Ok(true));
 }
 
 /// The best claim and its only series, by so many lines.

@@ -1,10 +1,9 @@
 //! Inputs of `verify` in pieces, how each ends, and which line has failed on the way.
 
-ghost use Rattle.std.specs.Prelude.{◌≡◌, ◌<◌, IfOk, false, length};
+ghost use Rattle.std.specs.Prelude.{◌≡◌, ◌<◌, IfOk, OnOk, false, length};
 
 use Verdict::{Accepted, Refused, Rejected};
 use std::alloc::Global;
-use std::test::Fail;
 use ts_base::Memory;
 use ts_checker::{Verdict, Verifier, VerifyEnd};
 use ts_model::ModelKind;
@@ -187,6 +186,23 @@ fn feeds() -> &'static [(&'static str, Option<u32>)] {
 /// Rows have no longer texts, and lists no more rows.
 const MOST: usize = 1_000_000;
 
+/// Feeds a text to a new verifier, in pieces of so many bytes.
+fn feed_all(verifier: &mut Verifier, text: &[u8], size: usize) -> Result<(), Memory>
+    requires calm { verifier.old.wanting ≡ false }
+    requires none { verifier.old.count ≡ 0 }
+    requires some { 0 < size }
+    requires few { length text.now < 2000000 }
+    ensures { OnOk result (verifier.new.wanting ≡ false) }
+{
+    let mut rest = text;
+    while !rest.is_empty() {
+        let (piece, left) = rest.split_at(size.min(rest.len()));
+        verifier.feed(piece)?;
+        rest = left;
+    }
+    Ok(())
+}
+
 /// A verifier that was fed a text in pieces of so many bytes.
 fn fed(alloc: Global, text: &[u8], size: usize) -> Result<Verifier, Memory>
     requires some { 0 < size }
@@ -194,12 +210,7 @@ fn fed(alloc: Global, text: &[u8], size: usize) -> Result<Verifier, Memory>
     ensures { IfOk result (λ v. v.wanting ≡ false) }
 {
     let mut verifier = Verifier::new(alloc);
-    let mut rest = text;
-    while !rest.is_empty() {
-        let (piece, left) = rest.split_at(size.min(rest.len()));
-        verifier.feed(piece)?;
-        rest = left;
-    }
+    feed_all(&mut verifier, text, size)?;
     Ok(verifier)
 }
 
@@ -214,6 +225,23 @@ fn filled(alloc: Global, head: &str, word: &str, tail: &str) -> Result<Vec<u8>, 
     Ok(text)
 }
 
+/// Whether a text in pieces of so many bytes ends so and this line has failed before.
+fn ends_in_pieces(
+    alloc: Global,
+    text: &[u8],
+    size: usize,
+    end: VerifyEnd,
+    failed: Option<u32>,
+) -> Result<bool, Memory>
+    requires some { 0 < size }
+    requires few { length text.now < 2000000 }
+{
+    let verifier = fed(alloc, text, size)?;
+    let failed_so = verifier.failed() == failed;
+    let ended = verifier.finish()?;
+    Ok(failed_so && ended == end)
+}
+
 /// Whether an input ends so and this line has failed before, wherever it is cut.
 fn ends_so(alloc: Global, input: &Input) -> Result<bool, Memory> {
     let (head, word, tail, end, failed) = *input;
@@ -222,25 +250,29 @@ fn ends_so(alloc: Global, input: &Input) -> Result<bool, Memory> {
         return Ok(false);
     }
     Ok(
-        fed(alloc, &text, 1)?.finish()? == end
-            && fed(alloc, &text, 7)?.finish()? == end
-            && fed(alloc, &text, 4_096)?.finish()? == end
-            && fed(alloc, &text, 7)?.failed() == failed,
+        ends_in_pieces(alloc, &text, 1, end, failed)?
+            && ends_in_pieces(alloc, &text, 7, end, failed)?
+            && ends_in_pieces(alloc, &text, 4_096, end, failed)?,
     )
 }
 
 #[test]
-fn pieces(rt: HostRuntime) -> Result<(), Fail> {
-    for (place, input) in inputs().iter().enumerate() {
-        assert!(rt; ends_so(rt.alloc(), input)?, "row {place}");
+fn pieces(rt: HostRuntime) {
+    let rows = inputs();
+    for place in 0..rows.len() {
+        assert!(rt;
+            ends_so(rt.alloc(), &rows[place]) == Ok(true),
+            "row {place}"
+        );
     }
-    Ok(())
 }
 
-/// The first row behind whose piece another line has failed.
-fn first_wrong_feed(alloc: Global) -> Result<Option<usize>, Memory> {
+/// The first row behind whose piece another line has failed, by a new verifier.
+fn first_other(verifier: &mut Verifier) -> Result<Option<usize>, Memory>
+    requires calm { verifier.old.wanting ≡ false }
+    requires none { verifier.old.count ≡ 0 }
+{
     let rows = feeds();
-    let mut verifier = Verifier::new(alloc);
     for k in 0..rows.len() {
         let (piece, failed) = rows[k];
         if k > 1_000 || piece.len() > 1_000 {
@@ -254,8 +286,12 @@ fn first_wrong_feed(alloc: Global) -> Result<Option<usize>, Memory> {
     Ok(None)
 }
 
+fn first_wrong_feed(alloc: Global) -> Result<Option<usize>, Memory> {
+    let mut verifier = Verifier::new(alloc);
+    first_other(&mut verifier)
+}
+
 #[test]
-fn failed_between_pieces(rt: HostRuntime) -> Result<(), Fail> {
-    assert_eq!(rt; first_wrong_feed(rt.alloc())?, None);
-    Ok(())
+fn failed_between_pieces(rt: HostRuntime) {
+    assert!(rt; first_wrong_feed(rt.alloc()) == Ok(None));
 }

@@ -1,5 +1,5 @@
 use Rattle.std.proofs.Common.{◌≡◌, false}
-use Rattle.ts_search_tests.proofs.checked.certificates.first_wrong_step.Given as goal
+use Rattle.ts_tests.proofs.checked.certificates.first_other.Given as goal
 
 abbrev pub invariant-loop-k : goal.invariant-loop-k
 invariant-loop-k l = l.checker.wanting ≡ false

@@ -1,5 +1,5 @@
 use Rattle.std.proofs.Common.{◌≡◌, ◌+◌, ◌<◌, false, length}
-use Rattle.ts_search_tests.proofs.checked.inputs.fed.Given as goal
+use Rattle.ts_tests.proofs.checked.inputs.feed_all.Given as goal
 
 abbrev pub invariant-loop-rest : goal.invariant-loop-rest
 invariant-loop-rest l = (l.verifier.wanting ≡ false) × (l.verifier.count + length l.rest < 4000000000)
