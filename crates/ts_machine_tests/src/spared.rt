@@ -104,6 +104,18 @@ fn row_holds(
     Some(true)
 }
 
+fn each_row_holds(alloc: Global, model: &Model, m: &Machine) -> Option<bool>
+    requires split { IsSome (pair_of m.now) }
+    requires limits { KeepsLimits NeedsList (model_parts model.now) }
+{
+    for (values, counts) in rows() {
+        if !row_holds(alloc, model, m, values, counts)? {
+            return Some(false);
+        }
+    }
+    Some(true)
+}
+
 fn rows_hold(alloc: Global) -> Option<bool> {
     let model = model(alloc)?;
     let program = compile_model(alloc, &model).ok()?;
@@ -111,12 +123,7 @@ fn rows_hold(alloc: Global) -> Option<bool> {
     if m.reverse().is_none() {
         return None;
     }
-    for (values, counts) in rows() {
-        if !row_holds(alloc, &model, m, values, counts)? {
-            return Some(false);
-        }
-    }
-    Some(true)
+    each_row_holds(alloc, &model, m)
 }
 
 #[test]
