@@ -34,7 +34,8 @@ pub(crate) struct Gluing {
 
 impl Gluing {
     /// The glued ends of two hulls before the mark. If all numbers that are added or taken away are small, sums are
-    /// those of the lanes; otherwise they are clamped.
+    /// those of the lanes; otherwise they are clamped: in place where that is common, between wide automata of which one
+    /// holds nothing.
     #[inline(always)]
     pub(crate) fn glued<const N: usize>(self, left: &PackedHull<N>, right: &PackedHull<N>) -> Ends
         requires registers { 6 ≤ N }
@@ -47,12 +48,14 @@ impl Gluing {
         let (first, second) = (Side::of(left), Side::of(right));
         if self.is_plain(first, second) {
             self.glued_by::<Plain>(first, second)
+        } else if self.wide {
+            self.glued_by::<Clamped>(first, second)
         } else {
             self.clamped(left, right)
         }
     }
 
-    /// The glued ends of two hulls before the mark, with clamped sums.
+    /// The glued ends of two hulls before the mark, with clamped sums; rare between narrow automata.
     #[inline(never)]
     fn clamped<const N: usize>(self, left: &PackedHull<N>, right: &PackedHull<N>) -> Ends
         requires registers { 6 ≤ N }
