@@ -5,7 +5,7 @@ ghost use Rattle.std.specs.Prelude.{Some, IfOk, IsErr, OnErr, MatchResult};
 ghost use Rattle.ts_base.specs.Outside.{has_faults, one_more};
 
 use crate::error::Failed;
-use crate::outside::{Sink, Source};
+use crate::outside::{Sink, Source, ends_after};
 use std::alloc::Global;
 use std::marker::Model;
 
@@ -95,9 +95,7 @@ impl Source for MemorySource {
         let count = self.step.min(into.len()).min(rest.len());
         into[..count].copy_from_slice(&rest[..count]);
         self.at += count;
-        if !into.is_empty() && count == 0 {
-            self.ends = self.ends.saturating_add(1);
-        }
+        self.ends = ends_after(into.len(), count, self.ends);
         Ok(count)
     }
 }

@@ -4,7 +4,7 @@ ghost use Rattle.std.specs.Prelude.{ℕ, ◌≡◌, ◌<◌, [], length, take, d
 ghost use Rattle.std.specs.Vec.{vec_capacity};
 
 use crate::error::Failed;
-use crate::outside::{Sink, Source};
+use crate::outside::{Sink, Source, ends_after};
 use std::marker::Model;
 
 /// Gives the bytes that it was made with.
@@ -61,9 +61,7 @@ impl Source for NeverSource {
         let count = into.len().min(rest.len());
         into[..count].copy_from_slice(&rest[..count]);
         self.at += count;
-        if !into.is_empty() && count == 0 {
-            self.ends = self.ends.saturating_add(1);
-        }
+        self.ends = ends_after(into.len(), count, self.ends);
         Ok(count)
     }
 }

@@ -2,7 +2,7 @@
 
 ghost use Rattle.std.specs.Prelude.{ℕ, ◌≡◌, ◌<◌, ◌≤◌, Bool, IsTrue, false, List, length, take};
 ghost use Rattle.std.specs.Prelude.{Option, IfOk, MatchResult, OnOk, OnErr};
-ghost use Rattle.ts_base.specs.Outside.{AtEnd, Rose, one_more, put_back, taken_more};
+ghost use Rattle.ts_base.specs.Outside.{AtEnd, Rose, ends_after, one_more, put_back, taken_more};
 
 use crate::error::Failed;
 
@@ -85,4 +85,17 @@ pub trait Sink {
         ensures undone { OnErr result (finished self.new ≡ false) }
         ensures once { finishes self.new ≡ one_more (finishes self.old) }
         ensures later { sink_faults self.old ≤ sink_faults self.new };
+}
+
+/// The count of the reads that found the end, after one that gave `given` bytes into a buffer with this room.
+pub(crate) fn ends_after(room: usize, given: usize, ends: u64) -> u64
+    ensures value { result ≡ ends_after room given ends }
+    ensures found { given ≡ 0 → 0 < room → result ≡ one_more ends }
+    ensures before { 0 < given → result ≡ ends }
+{
+    if room > 0 && given == 0 {
+        ends.saturating_add(1)
+    } else {
+        ends
+    }
 }

@@ -6,7 +6,7 @@ ghost use Rattle.std.specs.Io.KnownBytes.{Keeps, ReadConsumes, WriteAppends};
 ghost use Rattle.ts_base.specs.Outside.{ends_after, faults_after, has_faults, one_more};
 
 use crate::error::Failed;
-use crate::outside::{Sink, Source};
+use crate::outside::{Sink, Source, ends_after};
 use std::io::{self, ErrorKind, Read, Write};
 use std::marker::Model;
 
@@ -59,9 +59,7 @@ impl<R: Read + Drop> Source for StdIn<R> {
     {
         let got = self.inner.read(into);
         let given = counted_result(got, &mut self.faults)?;
-        if !into.is_empty() && given == 0 {
-            self.ends = self.ends.saturating_add(1);
-        }
+        self.ends = ends_after(into.len(), given, self.ends);
         Ok(given)
     }
 }
