@@ -1,11 +1,12 @@
 -- Words written one after the other, and words read up to the one that is refused.
-use Rattle.std.proofs.Common.{◌≡◌, ℕ, zero, suc, ◌-◌, ◌<◌, ◌≤◌, cond, true, false, nat_le, Bool, Option, Some, None, List, [], ◌∷◌, ◌++◌, length, drop, get_or, take, not, nat_lt, ◌+◌, append-nil, refl, sym, ap, ◌∙◌, append_assoc, arith}
+use Rattle.std.proofs.Common.{◌≡◌, ℕ, zero, suc, ◌-◌, ◌<◌, ◌≤◌, cond, true, false, nat_le, Bool, Option, Some, None, List, [], ◌∷◌, ◌++◌, length, drop, get_or, take, not, nat_lt, ◌+◌, append-nil, refl, sym, ap, subst, ◌∙◌, append_assoc, arith}
 use Rattle.std.specs.Borrow.{Bor}
 use Rattle.std.proofs.Math.Seq.{drop-cons}
 use Rattle.std.specs.List.{position, position_or_len}
 use Rattle.std.proofs.lemmas.Bool.{ltb-false, ltb-true}
-use Rattle.std.proofs.lemmas.List.{take_rest, drop-map, take-map}
-use Rattle.ts_base.specs.Words.{behind, full_line}
+use Rattle.std.proofs.lemmas.List.{take_rest, drop-map, take-map, map_push}
+use Rattle.ts_base.specs.Words.{behind, full_line, Words, words_of, all_words, words_seen, more_seen, left_of}
+use Rattle.ts_base.specs.declared.words.Words.{Words as CutWords}
 use Rattle.ts_automaton.specs.AutomatonText.{words_text, lines_text}
 use Rattle.ts_automaton.specs.Lines.{is_semi, onto_cut, cut_of}
 use Rattle.ts_automaton.specs.Formula.{Formula}
@@ -134,3 +135,18 @@ words_after ws k = ap texts (take_rest ws k) ∙ sym (drop-map (λ (w : Bor (Lis
 
 pub words_before : (ws : List (Bor (List ℕ))) (k : ℕ) → texts (take k ws) ≡ take k (texts ws)
 words_before ws k = sym (take-map (λ (w : Bor (List ℕ)). w.now) k ws)
+
+-- one more word was cut from what was left of a line
+pub one_more_word : (all : List (List ℕ)) (found new : List (Bor (List ℕ))) (before : Option (Bor (List ℕ))) (part : Bor (List ℕ)) (cut : CutWords) →
+    before ≡ Some part → words_seen cut ≡ words_of part.now → new ≡ found ++ cut.first ∷ [] → texts found ++ more_seen before ≡ all →
+    texts new ++ more_seen cut.rest ≡ all
+one_more_word all found new before part cut is e push so_far =
+    ap (λ (ws : List (Bor (List ℕ))). texts ws ++ more_seen cut.rest) push
+    ∙ ap (λ (ws : List (List ℕ)). ws ++ more_seen cut.rest) (map_push (λ (w : Bor (List ℕ)). w.now) found cut.first)
+    ∙ append_assoc (texts found) (cut.first.now ∷ []) (more_seen cut.rest)
+    ∙ ap (λ (w : Words). texts found ++ all_words w) e
+    ∙ ap (λ (o : Option (Bor (List ℕ))). texts found ++ more_seen o) (sym is)
+    ∙ so_far
+
+pub less_left : (before : Option (Bor (List ℕ))) (part : Bor (List ℕ)) (n : ℕ) → before ≡ Some part → n ≤ length part.now → n < left_of before
+less_left before part n is h = subst (λ (o : Option (Bor (List ℕ))). n < left_of o) (sym is) (omega (arith, h))

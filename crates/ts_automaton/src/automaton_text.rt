@@ -92,15 +92,19 @@ fn next_state(line: StateLine, moves: &mut VecDeque<Turn>) -> Option<State>
     ensures moves { IfSome result (λ s.
         map move_of moves.old.items ≡ all_moves (node_of s ∷ []) ++ map move_of moves.new.items) }
 {
-    match (moves.pop_front(), moves.pop_front(), moves.pop_front()) {
-        (Some(less), Some(equal), Some(greater)) => Some(State {
+    let three = moves
+        .pop_front()
+        .zip(moves.pop_front())
+        .zip(moves.pop_front());
+    match three {
+        Some(((less, equal), greater)) => Some(State {
             name: line.name,
             held: line.held,
             less,
             equal,
             greater,
         }),
-        _ => None,
+        None => None,
     }
 }
 

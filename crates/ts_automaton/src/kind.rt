@@ -15,7 +15,7 @@ pub enum RegKind {
 }
 
 /// The kind of each register.
-#[derive(Clone, Copy, Debug, PartialEq, Eq)]
+#[derive(Clone, Copy)]
 pub(crate) struct Kinds {
     pub(crate) c: RegKind,
     pub(crate) e: RegKind,
@@ -47,17 +47,25 @@ impl RegKind {
     pub(crate) fn joined(operator: Operator, a: RegKind, b: RegKind) -> Option<RegKind>
         ensures { result ≡ op_kind operator a b }
     {
-        match (operator, a, b) {
-            (_, RegKind::Int, RegKind::Int) => Some(RegKind::Int),
-            (Operator::Fold(Op::Max), RegKind::Low, RegKind::Low) => Some(RegKind::Low),
-            (Operator::Fold(Op::Max), RegKind::Int, RegKind::Low)
-            | (Operator::Fold(Op::Max), RegKind::Low, RegKind::Int) => Some(RegKind::Int),
-            (Operator::Fold(Op::Min), RegKind::High, RegKind::High) => Some(RegKind::High),
-            (Operator::Fold(Op::Min), RegKind::Int, RegKind::High)
-            | (Operator::Fold(Op::Min), RegKind::High, RegKind::Int) => Some(RegKind::Int),
-            (Operator::Sub, RegKind::Low, RegKind::Int) => Some(RegKind::Low),
-            (Operator::Sub, RegKind::High, RegKind::Int) => Some(RegKind::High),
-            _ => None,
+        match operator {
+            Operator::Fold(Op::Add) => match (a, b) {
+                (RegKind::Int, RegKind::Int) => Some(RegKind::Int),
+                _ => None,
+            },
+            Operator::Fold(Op::Max) => match (a, b) {
+                (RegKind::High, _) | (_, RegKind::High) => None,
+                (RegKind::Low, RegKind::Low) => Some(RegKind::Low),
+                _ => Some(RegKind::Int),
+            },
+            Operator::Fold(Op::Min) => match (a, b) {
+                (RegKind::Low, _) | (_, RegKind::Low) => None,
+                (RegKind::High, RegKind::High) => Some(RegKind::High),
+                _ => Some(RegKind::Int),
+            },
+            Operator::Sub => match b {
+                RegKind::Int => Some(a),
+                _ => None,
+            },
         }
     }
 }

@@ -15,7 +15,7 @@ use ts_base::{Letter, Op};
 
 /// A place of an automaton's parts that is typed: the first state, which has to be free; the move of a state on a
 /// letter; and the finish expression.
-#[derive(Clone, Copy, Debug, PartialEq, Eq)]
+#[derive(Clone, Copy)]
 pub(crate) enum Place {
     Start,
     Moving { state: u8, letter: Letter },
