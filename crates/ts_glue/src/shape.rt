@@ -17,7 +17,7 @@ use ts_automaton::{Automaton, Expr, Op};
 const STATES: usize = 8;
 
 /// How the values of two runs are glued at a cell, by the states in which they stand.
-#[derive(Clone, Copy, Debug, PartialEq, Eq)]
+#[derive(Clone, Copy)]
 pub enum Shape {
     /// No occurrence has a sign before the cell and one after it.
     Apart,
@@ -26,7 +26,7 @@ pub enum Shape {
 }
 
 /// How an occurrence goes on through a cell.
-#[derive(Clone, Copy, Debug, PartialEq, Eq)]
+#[derive(Clone, Copy)]
 pub enum Seam {
     /// Neither side has folded the cell: it stands between what the two have open.
     Between { held_left: bool, held_right: bool },
