@@ -180,9 +180,19 @@ impl Domain {
         self.marks.free_to(v, end)
     }
 
-    /// Whether both have the same ranges, piece and marks, and so the same numbers. It compares no numbers: of sets
-    /// that were made in other ways it may say no all the same.
+    /// Whether both are the same range, or have the same ranges, piece and marks. It compares no numbers: of sets with
+    /// gaps that were made in other ways it may say no although they are equal.
     pub fn is_same(&self, other: &Domain) -> bool
+        ensures { IsTrue result → self.now ≡ other.now }
+    {
+        match (self.as_range(), other.as_range()) {
+            (Some(one), Some(two)) => one == two,
+            _ => self.has_same_parts(other),
+        }
+    }
+
+    /// Whether both have the same ranges, piece and marks, and so the same numbers.
+    fn has_same_parts(&self, other: &Domain) -> bool
         ensures { IsTrue result → self.now ≡ other.now }
     {
         self.piece == other.piece

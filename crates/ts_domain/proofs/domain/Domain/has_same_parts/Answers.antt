@@ -1,8 +1,8 @@
 use Rattle.std.proofs.Common.{◌≡◌, rules, sym, ◌∙◌}
 use Rattle.std.proofs.lemmas.Bool.{both_ways}
 use Rattle.ts_domain.proofs.MarkedSets.{interval_decides, told_same, same_numbers}
-use Rattle.ts_domain.proofs.domain.Domain.is_same.Goals.{then-eq, else-eq}
-use Rattle.ts_domain.proofs.domain.Domain.is_same.Goals as goal
+use Rattle.ts_domain.proofs.domain.Domain.has_same_parts.Goals.{then-eq, else-eq}
+use Rattle.ts_domain.proofs.domain.Domain.has_same_parts.Goals as goal
 
 pub returns-then-is_same : goal.returns-then-is_same
 returns-then-is_same c = λ t.
