@@ -254,7 +254,17 @@ rows_ok need c m (Ok n) rows h = text_ok need c n m c.not_text rows h
 
 nothing_fits : (lists : Bool) → IsFit lists nothing
 nothing_fits lists =
-    record { box = tt; few = omega arith; total = λ _. omega arith; terms = omega arith; windows = tt; requirements = omega arith; each = tt; bounds = tt; objective = tt }
+    record {
+      box = tt;
+      few = omega arith;
+      total = λ _. omega arith;
+      terms = omega arith;
+      windows = tt;
+      requirements = omega arith;
+      each = tt;
+      bounds = tt;
+      objective = tt;
+    }
 
 ended_is : (need : Need) (c : Cut) (m : ModelParts) → reading need c ≡ Ok m → IsEnded need c m
 ended_is need c m h = rows_ok need c m (read_rows (needs_lists need) nothing c.rows) refl h

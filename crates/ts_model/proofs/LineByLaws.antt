@@ -106,7 +106,8 @@ next_number : (count length : ℕ) → count ≡ length → 1 + length ≡ count
 next_number count length is = omega (arith, is)
 
 -- what the line gives behind those that were read
-step_is : (old : SoFar) (given : List ℕ) (gives : Result ModelParts (ℕ × ModelKind)) → line_step old.need (old.count + 1) old.stated (without_end given) ≡ gives →
+step_is : (old : SoFar) (given : List ℕ) (gives : Result ModelParts (ℕ × ModelKind)) → line_step old.need (old.count + 1) old.stated (without_end given)
+    ≡ gives →
     (need : Need) (text line : List ℕ) → AreEnded text → IsLine line → StandsFor given line → HasRead need text (Ok old) →
     lines_reading need (cut_of (text ++ line)) ≡ gives
 step_is old given gives step need text line whole is same has =

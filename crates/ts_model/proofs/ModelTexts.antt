@@ -94,7 +94,8 @@ fresh_room need r has = room_left need r [] (10 ∷ []) has (omega arith) (omega
 
 -- the line is read
 
-short_read : (need : Need) (line given : List ℕ) (s : ShortLine) (old new : Result SoFar ModelStop) (text : List ℕ) → ((l : List ℕ) → IsShort l s → StandsFor given l) →
+short_read : (need : Need) (line given : List ℕ) (s : ShortLine) (old new : Result SoFar ModelStop) (text : List ℕ) →
+    ((l : List ℕ) → IsShort l s → StandsFor given l) →
     ReadsLine old given new → AreEnded text → IsLine line → IsShort line s → HasRead need text old → HasRead need (text ++ line) new
 short_read need line given s old new text stands reads ended is short h = reads need text line ended is (stands line short) h
 
