@@ -1,4 +1,5 @@
--- A smaller box has smaller hulls, and where the mark leaves answers as they are, smaller spans.
+-- A smaller box has smaller hulls, and smaller spans before the mark; so where a marked span lies in a given one, that of a smaller box does, if the mark
+-- keeps this.
 use Rattle.std.proofs.Common.{◌≡◌, ℕ, zero, suc, ◌+◌, ◌-◌, ◌<◌, ◌≤◌, inl, inr, ⊎_elim, ℤ, pos, Bool, true, false, cond, nat_eq, List, [], ◌∷◌, ◌++◌, length, map, take, drop, get_or, refl, sym, ap, ◌∙◌, subst, arith}
 use Rattle.std.specs.Prelude.{fold, flat_map, reverse, Contains, Option, None, Some, IfSome}
 use Rattle.std.specs.List.{range_with_len, AllByRecursion}
@@ -10,6 +11,7 @@ use Rattle.ts_base.specs.SpanLayer.{IsWithin}
 use Rattle.ts_base.specs.Spans.{none_span, one_span, Holds, span_hull}
 use Rattle.ts_base.specs.Windows.{looked_at}
 use Rattle.ts_base.proofs.SpanLaws.{none_empty, hull_left, hull_right, hull_least}
+use Rattle.ts_automaton.specs.declared.state.Mark.{Mark}
 use Rattle.ts_automaton.specs.declared.state.Mark.TheVariants.{Same}
 use Rattle.ts_automaton.specs.declared.regs.Hull.{Hull}
 use Rattle.ts_automaton.specs.Formula.{Formula}
@@ -21,8 +23,8 @@ use Rattle.ts_automaton.proofs.Evaluation.{value_related}
 use Rattle.ts_automaton.proofs.OperatorLaws.{op_within}
 use Rattle.ts_domain.proofs.Sets.{contains_cons, all_append}
 use Rattle.ts_glue.specs.Pairs.{Pair}
-use Rattle.ts_glue.specs.Glued.{glued_span}
-use Rattle.ts_glue.proofs.SpanGlue.{unmarked_spans_grow, wider_registers, same_grows}
+use Rattle.ts_glue.specs.Glued.{glue_span_at, glued_span}
+use Rattle.ts_glue.proofs.SpanGlue.{glued_spans_grow, wider_registers, same_grows}
 use Rattle.ts_hull.specs.Hulls.{hull_of, none, hull_of_both, hull_of_all}
 use Rattle.ts_bound.specs.NextRow.{Source, source, hull_from, next_hull, states_of}
 use Rattle.ts_bound.specs.HullTables.{hull_at, cells_before, cells_after, values_at}
@@ -171,7 +173,7 @@ hull_grows b [] (w ∷ wider) v q a = absurd a
 hull_grows b (u ∷ before) [] v q a = absurd a
 hull_grows b (us ∷ before) (ws ∷ wider) v q a = next_within b v q us ws (hull_at b before) (hull_at b wider) a.0 (λ u p. hull_grows b before wider u p a.1)
 
--- spans, where the mark leaves them
+-- spans before the mark
 
 finished_within : (b : Body) (h k : EachOf Span) → HullWithin h k → IsWithin (finished_span b h) (finished_span b k)
 finished_within b h k w = go (has_registers h) refl
@@ -181,50 +183,24 @@ finished_within b h k w = go (has_registers h) refl
         (value_within b.finish h k (pos 0) (pos 0) w)
     go false e = λ x p. absurd (none_empty x p)
 
--- the hull of spans that each lie in one of others
-spans_within : (x : Span) (ss : List Span) (s : Span) → IsWithin s x → AllByRecursion (λ t. IsWithin t x) ss → IsWithin (fold span_hull s ss) x
-spans_within x [] s p a = p
-spans_within x (t ∷ ss) s p a = spans_within x ss (span_hull s t) (hull_least s t x p a.0) a.1
+-- lists of spans that all lie in one
 
-span_in : (s : Span) (ts : List Span) → Any (λ t. IsWithin s t) ts → IsWithin s (span_of_all ts)
-span_in s ts a e h = spans_take e ts none_span (holding ts a)
+hull_in : (h : Span) (ss : List Span) (s : Span) → IsWithin s h → AllByRecursion (λ t. IsWithin t h) ss → IsWithin (fold span_hull s ss) h
+hull_in h [] s p a = p
+hull_in h (t ∷ ss) s p a = hull_in h ss (span_hull s t) (hull_least s t h p a.0) a.1
+
+all_in : (h : Span) (ss : List Span) → AllByRecursion (λ t. IsWithin t h) ss → IsWithin (span_of_all ss) h
+all_in h ss a = hull_in h ss none_span (λ e n. absurd (none_empty e n)) a
+
+in_all : (s : Span) (ts : List Span) → Any (λ t. IsWithin s t) ts → IsWithin s (span_of_all ts)
+in_all s ts a e h = spans_take e ts none_span (holding ts a)
   where
     holding : (ts : List Span) → Any (λ t. IsWithin s t) ts → Any (λ t. Holds t e) ts
     holding [] a = a
     holding (t ∷ ts) a = ⊎_elim (λ w. inl (w e h)) (λ r. inr (holding ts r)) a
 
-finishes_grow : (b : Body) → b.mark ≡ Same → (n : ℕ) (before wider : List (List ℤ)) (v : ℤ) → AreWithin before wider →
-    IsWithin (span_of_all (finish_spans b n before v)) (span_of_all (finish_spans b n wider v))
-unfolding finish_spans
-finishes_grow b mark n before wider v a =
-    let f : ℕ → Span = λ q. finish_span_of b (standing_in b before v q) n in
-    let g : ℕ → Span = λ q. finish_span_of b (standing_in b wider v q) n in
-    let x = span_of_all (map g (states_of b)) in
-    spans_within x (map f (states_of b)) none_span (λ e h. absurd (none_empty e h))
-    (all_range (λ t. IsWithin t x) f (length b.states) 0 (length b.states) (omega arith) (λ q lt.
-    span_in (f q) (map g (states_of b)) (any_range (λ t. IsWithin (f q) t) g 0 (length b.states) q (omega arith) (omega (arith, lt))
-    (subst (λ m. IsWithin (marked_span m n (finished_span b (spans_of (hull_at b before v q))))
-    (marked_span m n (finished_span b (spans_of (hull_at b wider v q))))) (sym mark)
-    (same_grows n _ _ (finished_within b _ _ (hull_grows b before wider v q a)))))))
-
-glued_grow : (p : Pair) → p.forward.mark ≡ Same → (n : ℕ) (before wider behind rest : List (List ℤ)) (v : ℤ) → AreWithin before wider →
-    AreWithin behind rest →
-    IsWithin (span_of_all (glued_spans p n before behind v)) (span_of_all (glued_spans p n wider rest v))
-unfolding glued_spans
-glued_grow p mark n before wider behind rest v a c =
-    let f : ℕ → ℕ → Span = λ q r. glued_span p (standing_in p.forward before v q) (standing_in p.reverse behind v r) v n in
-    let g : ℕ → ℕ → Span = λ q r. glued_span p (standing_in p.forward wider v q) (standing_in p.reverse rest v r) v n in
-    let G : ℕ → List Span = λ q. map (g q) (states_of p.reverse) in
-    let x = span_of_all (flat_map G (states_of p.forward)) in
-    spans_within x (flat_map (λ q. map (f q) (states_of p.reverse)) (states_of p.forward)) none_span (λ e h. absurd (none_empty e h))
-    (all_flat_range (λ t. IsWithin t x) (λ q. map (f q) (states_of p.reverse)) (length p.forward.states) 0 (length p.forward.states) (omega arith) (λ q lt.
-    all_range (λ t. IsWithin t x) (f q) (length p.reverse.states) 0 (length p.reverse.states) (omega arith) (λ r l.
-    span_in (f q r) (flat_map G (states_of p.forward)) (any_flat_range (λ t. IsWithin (f q r) t) G 0 (length p.forward.states) q (omega arith)
-    (omega (arith, lt))
-    (any_range (λ t. IsWithin (f q r) t) (g q) 0 (length p.reverse.states) r (omega arith) (omega (arith, l))
-    (unmarked_spans_grow p mark q r (spans_of (hull_at p.forward before v q)) (spans_of (hull_at p.reverse behind v r))
-    (spans_of (hull_at p.forward wider v q)) (spans_of (hull_at p.reverse rest v r)) v n
-    (hull_grows p.forward before wider v q a) (hull_grows p.reverse behind rest v r c)))))))
+within_trans : (s t u : Span) → IsWithin s t → IsWithin t u → IsWithin s u
+within_trans s t u p q e h = q e (p e h)
 
 -- boxes
 
@@ -270,42 +246,90 @@ within_at i (a ∷ es) [] h v k = absurd h
 within_at zero (a ∷ es) (c ∷ cs) h v k = h.0 v k
 within_at (suc i) (a ∷ es) (c ∷ cs) h v k = within_at i es cs h.1 v k
 
-by_pair : (b : Body) (o : Option Pair) → b.mark ≡ Same → IfSome o (Splits b) → (k : ℕ) (cells wider : List (List ℤ)) (v : ℤ) → AreWithin cells wider →
-    IsWithin (span_of_all (spans_at b o k cells v)) (span_of_all (spans_at b o k wider v))
-unfolding spans_at
-by_pair b None mark s k cells wider v a =
-    subst (λ n. IsWithin (span_of_all (finish_spans b (length cells) (cells_before k cells) v))
-    (span_of_all (finish_spans b n (cells_before k wider) v))) (same_length cells wider a)
-    (finishes_grow b mark (length cells) (cells_before k cells) (cells_before k wider) v (within_reverse _ _ (within_take (k - 1) cells wider a)))
-by_pair b (Some p) mark s k cells wider v a =
-    subst (λ n. IsWithin (span_of_all (glued_spans p (length cells) (cells_before k cells) (cells_after k cells) v))
-    (span_of_all (glued_spans p n (cells_before k wider) (cells_after k wider) v)))
-    (same_length cells wider a)
-    (glued_grow p (ap (λ z. z.mark) s.forward ∙ mark) (length cells) (cells_before k cells) (cells_before k wider) (cells_after k cells)
-    (cells_after k wider) v
-    (within_reverse _ _ (within_take (k - 1) cells wider a)) (within_drop k cells wider a))
-
-value_grows : (m : Automata) → AreAutomata m → m.forward.mark ≡ Same → (k : ℕ) (cells wider : List (List ℤ)) (v : ℤ) → AreWithin cells wider →
-    IsWithin (inner_value_span m k cells v) (inner_value_span m k wider v)
-unfolding inner_value_span
-value_grows m are mark k cells wider v a = by_pair m.forward m.pair mark are.pair k cells wider v a
-
-inner_grows : (m : Automata) → AreAutomata m → m.forward.mark ≡ Same → (cells wider : List (List ℤ)) → AreWithin cells wider → (k : ℕ) →
-    IsWithin (inner_span m k cells) (inner_span m k wider)
-unfolding inner_span
-inner_grows m are mark cells wider a k =
-    let x = span_of_all (map (inner_value_span m k wider) (values_at k wider)) in
-    spans_within x (map (inner_value_span m k cells) (values_at k cells)) none_span (λ e h. absurd (none_empty e h))
-    (all_mapped (λ t. IsWithin t x) (inner_value_span m k cells) (values_at k cells) (λ v c.
-    span_in (inner_value_span m k cells v) (map (inner_value_span m k wider) (values_at k wider))
-    (any_mapped (λ t. IsWithin (inner_value_span m k cells v) t) (inner_value_span m k wider) (values_at k wider) v (within_at (k - 1) cells wider a v c)
-    (value_grows m are mark k cells wider v a))))
-
 looked_within : (w : Option Range) (cells wider : List (List ℤ)) → AreWithin cells wider → AreWithin (looked_at w cells) (looked_at w wider)
 looked_within None cells wider a = a
 looked_within (Some r) cells wider a = within_take (r.last - (r.first - 1)) _ _ (within_drop (r.first - 1) cells wider a)
 
+-- a mark and a span in which, under the mark, a smaller span lies where a larger one does
+module _ (mark : Mark) (h : Span)
+    (keeps : (n : ℕ) (s t : Span) → IsWithin s t → IsWithin (marked_span mark n t) h → IsWithin (marked_span mark n s) h) where
+  marked_in : (m : Mark) → m ≡ mark → (n : ℕ) (s t : Span) → IsWithin s t → IsWithin (marked_span m n t) h → IsWithin (marked_span m n s) h
+  marked_in m e n s t w = subst (λ z. IsWithin (marked_span z n t) h → IsWithin (marked_span z n s) h) (sym e) (keeps n s t w)
+
+  finishes_in : (b : Body) → b.mark ≡ mark → (n : ℕ) (before wider : List (List ℤ)) (v : ℤ) → AreWithin before wider →
+      IsWithin (span_of_all (finish_spans b n wider v)) h → IsWithin (span_of_all (finish_spans b n before v)) h
+  unfolding finish_spans
+  finishes_in b is n before wider v a all =
+      let f : ℕ → Span = λ q. finish_span_of b (standing_in b before v q) n in
+      let g : ℕ → Span = λ q. finish_span_of b (standing_in b wider v q) n in
+      all_in h (map f (states_of b))
+      (all_range (λ t. IsWithin t h) f (length b.states) 0 (length b.states) (omega arith) (λ q lt.
+      marked_in b.mark is n (finished_span b (spans_of (hull_at b before v q))) (finished_span b (spans_of (hull_at b wider v q)))
+      (finished_within b _ _ (hull_grows b before wider v q a))
+      (within_trans (g q) (span_of_all (map g (states_of b))) h
+      (in_all (g q) (map g (states_of b)) (any_range (λ t. IsWithin (g q) t) g 0 (length b.states) q (omega arith) (omega (arith, lt)) (λ e k. k))) all)))
+
+  glued_in : (p : Pair) → p.forward.mark ≡ mark → (n : ℕ) (before wider behind rest : List (List ℤ)) (v : ℤ) → AreWithin before wider →
+      AreWithin behind rest →
+      IsWithin (span_of_all (glued_spans p n wider rest v)) h → IsWithin (span_of_all (glued_spans p n before behind v)) h
+  unfolding glued_spans
+  glued_in p is n before wider behind rest v a c all =
+      let f : ℕ → ℕ → Span = λ q r. glued_span p (standing_in p.forward before v q) (standing_in p.reverse behind v r) v n in
+      let g : ℕ → ℕ → Span = λ q r. glued_span p (standing_in p.forward wider v q) (standing_in p.reverse rest v r) v n in
+      let G : ℕ → List Span = λ q. map (g q) (states_of p.reverse) in
+      all_in h (flat_map (λ q. map (f q) (states_of p.reverse)) (states_of p.forward))
+      (all_flat_range (λ t. IsWithin t h) (λ q. map (f q) (states_of p.reverse)) (length p.forward.states) 0 (length p.forward.states) (omega arith) (λ q lt.
+      all_range (λ t. IsWithin t h) (f q) (length p.reverse.states) 0 (length p.reverse.states) (omega arith) (λ r l.
+      marked_in p.forward.mark is n
+      (glue_span_at p (standing_in p.forward before v q) (standing_in p.reverse behind v r) v)
+      (glue_span_at p (standing_in p.forward wider v q) (standing_in p.reverse rest v r) v)
+      (glued_spans_grow p q r (spans_of (hull_at p.forward before v q)) (spans_of (hull_at p.reverse behind v r))
+      (spans_of (hull_at p.forward wider v q)) (spans_of (hull_at p.reverse rest v r)) v
+      (hull_grows p.forward before wider v q a) (hull_grows p.reverse behind rest v r c))
+      (within_trans (g q r) (span_of_all (flat_map G (states_of p.forward))) h
+      (in_all (g q r) (flat_map G (states_of p.forward)) (any_flat_range (λ t. IsWithin (g q r) t) G 0 (length p.forward.states) q (omega arith)
+      (omega (arith, lt))
+      (any_range (λ t. IsWithin (g q r) t) (g q) 0 (length p.reverse.states) r (omega arith) (omega (arith, l)) (λ e k. k)))) all))))
+
+  by_pair : (b : Body) (o : Option Pair) → b.mark ≡ mark → IfSome o (λ p. p.forward ≡ b) → (k : ℕ) (cells wider : List (List ℤ)) (v : ℤ) →
+      AreWithin cells wider → IsWithin (span_of_all (spans_at b o k wider v)) h → IsWithin (span_of_all (spans_at b o k cells v)) h
+  unfolding spans_at
+  by_pair b None is s k cells wider v a all =
+      finishes_in b is (length cells) (cells_before k cells) (cells_before k wider) v (within_reverse _ _ (within_take (k - 1) cells wider a))
+      (subst (λ n. IsWithin (span_of_all (finish_spans b n (cells_before k wider) v)) h) (sym (same_length cells wider a)) all)
+  by_pair b (Some p) is s k cells wider v a all =
+      glued_in p (ap (λ z. z.mark) s ∙ is) (length cells) (cells_before k cells) (cells_before k wider) (cells_after k cells) (cells_after k wider) v
+      (within_reverse _ _ (within_take (k - 1) cells wider a)) (within_drop k cells wider a)
+      (subst (λ n. IsWithin (span_of_all (glued_spans p n (cells_before k wider) (cells_after k wider) v)) h) (sym (same_length cells wider a)) all)
+
+  module _ (m : Automata) (is : m.forward.mark ≡ mark) (pair : IfSome m.pair (λ p. p.forward ≡ m.forward)) where
+    value_in_inside : (k : ℕ) (cells wider : List (List ℤ)) (v : ℤ) → AreWithin cells wider →
+        IsWithin (inner_value_span m k wider v) h → IsWithin (inner_value_span m k cells v) h
+    unfolding inner_value_span
+    value_in_inside k cells wider v a all = by_pair m.forward m.pair is pair k cells wider v a all
+
+    inner_in_inside : (cells wider : List (List ℤ)) → AreWithin cells wider → (k : ℕ) → IsWithin (inner_span m k wider) h → IsWithin (inner_span m k cells) h
+    unfolding inner_span
+    inner_in_inside cells wider a k all =
+        all_in h (map (inner_value_span m k cells) (values_at k cells))
+        (all_mapped (λ t. IsWithin t h) (inner_value_span m k cells) (values_at k cells) (λ v c.
+        value_in_inside k cells wider v a
+        (within_trans (inner_value_span m k wider v) (span_of_all (map (inner_value_span m k wider) (values_at k wider))) h
+        (in_all (inner_value_span m k wider v) (map (inner_value_span m k wider) (values_at k wider))
+        (any_mapped (λ t. IsWithin (inner_value_span m k wider v) t) (inner_value_span m k wider) (values_at k wider) v
+        (within_at (k - 1) cells wider a v c) (λ e q. q))) all)))
+
+    pub term_in_inside : (cells wider : List (List ℤ)) → AreWithin cells wider → (k : ℕ) → IsWithin (term_span m k wider) h → IsWithin (term_span m k cells) h
+    unfolding term_span
+    term_in_inside cells wider a k all =
+        inner_in_inside (looked_at m.window cells) (looked_at m.window wider) (looked_within m.window cells wider a) (place_in m.window k) all
+
+forward_of_pair : (b : Body) (o : Option Pair) → IfSome o (Splits b) → IfSome o (λ p. p.forward ≡ b)
+forward_of_pair b None s = tt
+forward_of_pair b (Some p) s = s.forward
+
 pub smaller_within : SmallerBoxesAreWithin
-unfolding term_span
 smaller_within m are mark cells wider a k =
-    inner_grows m are mark (looked_at m.window cells) (looked_at m.window wider) (looked_within m.window cells wider a) (place_in m.window k)
+    let h = term_span m k wider in
+    term_in_inside Same h (λ n s t w all. within_trans (marked_span Same n s) (marked_span Same n t) h (same_grows n s t w) all) m mark
+    (forward_of_pair m.forward m.pair are.pair) cells wider a k (λ e p. p)
