@@ -1,6 +1,7 @@
 -- A span of which the parts are taken in: more parts, and what a front that has what is asked tells of all parts.
 use Rattle.std.proofs.Common.{◌≡◌, ◌↔◌, ℕ, ◌+◌, ◌<◌, ◌≤◌, ℤ, List, [], ◌∷◌, ◌++◌, length, map, take, drop, slice_get, Bool, true, false, cond, refl, sym, ap, ◌∙◌, subst}
-use Rattle.std.specs.Prelude.{fold, is_some, Option, None, Some}
+use Rattle.std.specs.Prelude.{fold, is_some, Option, None, Some, Result, Ok, Err}
+use Rattle.std.specs.Result.{result_ok, result_err}
 use Rattle.std.proofs.lemmas.List.{map-append, take-append-drop, take_all}
 use Rattle.std.proofs.lemmas.List.Sums.{fold-append}
 use Rattle.ts_base.specs.declared.ext.Ext.{Ext}
@@ -137,9 +138,10 @@ module _ (known : SoFar) (asked : Question) (f : ℤ → Span) (values : List �
 
 -- the whole span
 
-pub whole_told : (asked : Question) (s : Span) (o : Option SoFar) (told : Bool) → told ≡ is_some o → IsWholeSpan asked s o → (told ≡ true) ↔ Excludes asked s
-whole_told asked s None told is h = (λ so. absurd (let f : ◌≡◌ false true = sym is ∙ so in cc), λ none. absurd (h none))
-whole_told asked s (Some t) told is h = (λ so. h.1, λ none. is)
+pub shown_told : (asked : Question) (s : Span) (r : Result SoFar ℤ) (o : Option ℤ) → o ≡ result_err r → IsWholeSpan asked s (result_ok r) →
+    (o ≡ None) ↔ Excludes asked s
+shown_told asked s (Ok t) o is h = (λ none. h.1, λ excluded. is)
+shown_told asked s (Err v) o is h = (λ none. absurd (let f : ◌≡◌ (Some v) None = sym is ∙ none in cc), λ excluded. absurd (h excluded))
 
 pub none_by_whole : (own : TermRequirements) (asked : Question) (s : Span) → ((t : Span) → Excludes asked t ↔ RefutesSome own.all.now own.term t) →
     IsWholeSpan asked s None → IsFirstRefuting own.all.now own.term s None

@@ -40,7 +40,14 @@ impl<'a> BoxTables<'a> {
     {
         let k = self.read_at(p);
         self.make_at(alloc, k, cells)?;
-        Ok(self.hulls_at(k, cells).excludes(asked))
+        let value = self.hulls_at(k, cells).showing(asked, self.likely_at(k));
+        match value {
+            Some(v) => {
+                self.keep_likely(k, v)?;
+                Ok(false)
+            }
+            None => Ok(true),
+        }
     }
 
     /// Whether no number of the span at cell `k` does what is asked, on the box with the value `v` alone there.

@@ -40,7 +40,8 @@ use ts_model::Require;
 /// too. The box isn't inside: each question takes it, and each change of it has to be reported by `changed`. Contracts
 /// see the machine and the rows that are known, forward ones from the first cell on that is looked at, backward ones
 /// from the last one back; those that are kept; and requirements by which no drop was found at a cell that is looked
-/// at, nor is any there before one of these cells changes.
+/// at, nor is any there before one of these cells changes. At each cell that was asked about, the value that showed
+/// last that some number does what is asked is `likely` to show it again.
 #[derive(Drop)]
 pub(crate) struct BoxTables<'a> {
     machine: HeldMachine<'a>,
@@ -48,6 +49,7 @@ pub(crate) struct BoxTables<'a> {
     behind: RowStack,
     joints: Option<Joints>,
     quiet: Vec<Require>,
+    likely: Vec<i64>,
 }
 
 impl<'a> Model for BoxTables<'a> {
@@ -96,6 +98,7 @@ impl<'a> BoxTables<'a> {
             behind,
             joints,
             quiet: Vec::new(alloc),
+            likely: Vec::new(alloc),
         }
     }
 
@@ -169,6 +172,23 @@ impl<'a> BoxTables<'a> {
         }
         let quiet = own.copied(alloc)?;
         drop(mem::replace(&mut self.quiet, quiet));
+        Ok(())
+    }
+
+    /// The value that is asked about first at cell `k`.
+    pub(crate) fn likely_at(&self, k: u32) -> i64 {
+        self.likely.get(k as usize).copied().unwrap_or(0)
+    }
+
+    /// Remembers the value that is to be asked about first at cell `k`.
+    pub(crate) fn keep_likely(&mut self, k: u32, v: i64) -> Result<(), Memory>
+        ensures { self.new ≡ self.old }
+    {
+        let at = k as usize;
+        if self.likely.len() <= at {
+            self.likely.resize(at + 1, v)?;
+        }
+        self.likely[at] = v;
         Ok(())
     }
 

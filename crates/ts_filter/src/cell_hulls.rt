@@ -1,6 +1,7 @@
 //! The spans at a cell, from the hulls there, as far as a question needs them.
 
-ghost use Rattle.std.specs.Prelude.{◌≡◌, ◌↔◌, ◌≤◌, ℤ, [], ◌∷◌, Contains, IsTrue, Some, length, slice_get};
+ghost use Rattle.std.specs.Prelude.{◌≡◌, ◌↔◌, ◌≤◌, ℤ, [], ◌∷◌, Contains, IsTrue, None, Some, length, slice_get};
+ghost use Rattle.std.specs.Result.{result_ok};
 ghost use Rattle.ts_base.specs.Windows.{looked_at};
 ghost use Rattle.ts_bound.specs.Blocks.{last_at, split_at};
 ghost use Rattle.ts_bound.specs.Looks.{place_in};
@@ -78,11 +79,24 @@ impl<'a> CellHulls<'a> {
         self.cells.cell(self.cell)
     }
 
-    /// Whether no number of the span at the cell does what is asked.
-    pub(crate) fn excludes(&self, asked: Question<'_>) -> bool
-        ensures { IsTrue result ↔ Excludes asked.entry (term_span self.now.machine self.now.cell self.now.cells) }
+    /// A value with which it shows that some number of the span at the cell does what is asked; none exactly where no
+    /// number does. The value `likely` is asked about first, if it is one of the cell.
+    pub(crate) fn showing(&self, asked: Question<'_>, likely: i64) -> Option<i64>
+        ensures { (result ≡ None)
+            ↔ Excludes asked.entry (term_span self.now.machine self.now.cell self.now.cells) }
     {
-        self.with_all(asked).is_some()
+        if self.shows(asked, likely) {
+            return Some(likely);
+        }
+        self.with_all(asked).err()
+    }
+
+    /// Whether `v` is a value of the cell and some number of its span does what is asked.
+    fn shows(&self, asked: Question<'_>, v: i64) -> bool
+        ensures { IsTrue result →
+            Excludes asked.entry (term_span self.now.machine self.now.cell self.now.cells) → ⊥ }
+    {
+        self.values().contains(v) && !self.value_excludes(asked, v)
     }
 
     /// The number of the first of these requirements that the span at the cell refutes.
@@ -90,22 +104,26 @@ impl<'a> CellHulls<'a> {
         ensures { IsFirstRefuting requirements.entry.all.now requirements.entry.term
             (term_span self.now.machine self.now.cell self.now.cells) result }
     {
-        let known = self.with_all(Question::each_met(requirements))?;
+        let known = self.with_all(Question::each_met(requirements)).ok()?;
         requirements.first_refuted(known.span)
     }
 
-    /// The span at the cell, if no number of it does what is asked. It is the hull of the spans of the values, and the
-    /// first of these that has such a number settles the question: in most cells that is the first of all.
-    fn with_all<'b>(&self, asked: Question<'b>) -> Option<SoFar<'b>>
-        ensures { IsWholeSpan asked.entry (term_span self.now.machine self.now.cell self.now.cells) result }
+    /// The span at the cell, if no number of it does what is asked; otherwise a value with which it shows that one
+    /// does. The span is the hull of the spans of the values, and the first with such a number settles the question.
+    fn with_all<'b>(&self, asked: Question<'b>) -> Result<SoFar<'b>, i64>
+        ensures { IsWholeSpan asked.entry (term_span self.now.machine self.now.cell self.now.cells)
+            (result_ok result) }
     {
         let values = self.values();
         let mut known = SoFar::none(asked);
         for i in 0..values.size() {
             let v = values.nth(i);
-            known = self.with_value(known, i, v)?;
+            match self.with_value(known, i, v) {
+                Some(more) => known = more,
+                None => return Err(v),
+            }
         }
-        Some(known)
+        Ok(known)
     }
 
     /// Whether no number of the span does what is asked, on the box with the value `v` alone at the cell.

@@ -1,5 +1,5 @@
-use Rattle.std.proofs.Common.{◌↔◌, ap, ◌∙◌, sym, subst}
-use Rattle.std.specs.Prelude.{IsTrue}
+use Rattle.std.proofs.Common.{◌≡◌, ◌↔◌, false, true, Some, None, refl, ap, ◌∙◌, sym, subst}
+use Rattle.ts_base.specs.declared.span.Span.{Span}
 use Rattle.ts_bound.specs.TermSpans.{Automata, term_span}
 use Rattle.ts_filter.specs.CellHulls.{AtCell, HasHulls}
 use Rattle.ts_filter.specs.Question.{Excludes}
@@ -17,11 +17,22 @@ hulls_at-requires-clause-hulls c =
     (read_hulls c.args.self.now.machine c.args.cells.now.present c.args.p c.read_at-k.result c.requires.looks c.requires.cell c.requires.usable
     c.read_at-k.ensures)
 
-pub returns-clause-told : goal.returns-clause-told
-returns-clause-told c =
+pub returns-in-None-clause-told : goal.returns-in-None-clause-told
+returns-in-None-clause-told c =
     let b = c.args.cells.now.present in let k = c.read_at-k.result in
-    subst (λ s. IsTrue c.excludes.result ↔ Excludes c.args.asked s)
+    let told = subst (λ (s : Span). (c.showing-value.result ≡ None) ↔ Excludes c.args.asked s)
     (ap (λ (x : AtCell). term_span x.machine x.cell x.cells) c.hulls_at.ensures
     ∙ ap (λ (a : Automata). term_span a k b) c.in_ok-make_at.ensures.known.machine
     ∙ span_read c.args.self.now.machine b c.args.p k c.requires.looks c.requires.cell c.read_at-k.ensures)
-    c.excludes.ensures
+    c.showing-value.ensures in
+    (λ so. told.0 c.in-None.is, λ none. refl)
+
+pub returns-in_ok-keep_likely-in-Some-clause-told : goal.returns-in_ok-keep_likely-in-Some-clause-told
+returns-in_ok-keep_likely-in-Some-clause-told c =
+    let b = c.args.cells.now.present in let k = c.read_at-k.result in
+    let told = subst (λ (s : Span). (c.showing-value.result ≡ None) ↔ Excludes c.args.asked s)
+    (ap (λ (x : AtCell). term_span x.machine x.cell x.cells) c.hulls_at.ensures
+    ∙ ap (λ (a : Automata). term_span a k b) c.in_ok-make_at.ensures.known.machine
+    ∙ span_read c.args.self.now.machine b c.args.p k c.requires.looks c.requires.cell c.read_at-k.ensures)
+    c.showing-value.ensures in
+    (λ so. absurd (let f : ◌≡◌ false true = so in cc), λ none. absurd (let f : ◌≡◌ (Some c.in-Some.v) None = sym c.in-Some.is ∙ told.1 none in cc))

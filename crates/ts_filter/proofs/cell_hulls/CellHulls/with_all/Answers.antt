@@ -1,9 +1,8 @@
 use mir.Val.{SFits}
-use Rattle.std.proofs.Common.{ap, ◌∙◌, sym, length, slice_get, subst, w64, rules, arith}
+use Rattle.std.proofs.Common.{ap, ◌∙◌, sym, length, slice_get, w64, rules, arith}
 use Rattle.std.proofs.lemmas.Int.{to_z-of_z}
 use Rattle.ts_bound.specs.TermSpans.{term_span, value_span}
 use Rattle.ts_filter.specs.Boxes.{values_at}
-use Rattle.ts_filter.specs.SoFar.{IsWholeSpan}
 use Rattle.ts_filter.proofs.CellLaws.{span_begun}
 use Rattle.ts_filter.proofs.Looked.{span_inside}
 use Rattle.ts_filter.proofs.SoFarLaws.{value_more, value_stops, values_done}
@@ -22,19 +21,18 @@ loop-i-preserved c =
     let fits : SFits w64 c.nth-v.result = search rules in
     let t = c.args.self.now in let all = values_at t.cell t.cells in let long = ap length c.values-values.ensures.values in
     value_more c.loop-i.known c.args.asked (value_span t.machine t.cell t.cells) all (term_span t.machine t.cell t.cells) c.loop-i.i c.loop-i.invariant.0
-    (span_inside t.machine t.cell t.cells c.values-values.ensures.there) c.loop-i.invariant.1 c.in_ok-known.known
+    (span_inside t.machine t.cell t.cells c.values-values.ensures.there) c.loop-i.invariant.1 c.in-Some.more
     c.nth-v.result _ (omega (arith, long, c.loop-i-test.true, c.size-i-end.ensures.size))
-    (sym (ap (λ l. slice_get l c.loop-i.i) c.values-values.ensures.values) ∙ c.nth-v.ensures) (to_z-of_z w64 c.nth-v.result fits) c.in_ok-known.ensures
+    (sym (ap (λ l. slice_get l c.loop-i.i) c.values-values.ensures.values) ∙ c.nth-v.ensures) (to_z-of_z w64 c.nth-v.result fits) c.in-Some.ensures
 
-pub returns-in_err-known : goal.returns-in_err-known
-returns-in_err-known c =
+pub returns-in-None : goal.returns-in-None
+returns-in-None c =
     let fits : SFits w64 c.nth-v.result = search rules in
     let t = c.args.self.now in let all = values_at t.cell t.cells in let long = ap length c.values-values.ensures.values in
-    subst (IsWholeSpan c.args.asked (term_span t.machine t.cell t.cells)) (sym c.from_residual.ensures)
-    (value_stops c.loop-i.known c.args.asked (value_span t.machine t.cell t.cells) all (term_span t.machine t.cell t.cells) c.loop-i.i c.loop-i.invariant.0
+    value_stops c.loop-i.known c.args.asked (value_span t.machine t.cell t.cells) all (term_span t.machine t.cell t.cells) c.loop-i.i c.loop-i.invariant.0
     (span_inside t.machine t.cell t.cells c.values-values.ensures.there) c.loop-i.invariant.1
     c.nth-v.result _ (omega (arith, long, c.loop-i-test.true, c.size-i-end.ensures.size))
-    (sym (ap (λ l. slice_get l c.loop-i.i) c.values-values.ensures.values) ∙ c.nth-v.ensures) (to_z-of_z w64 c.nth-v.result fits) c.in_err-known.ensures)
+    (sym (ap (λ l. slice_get l c.loop-i.i) c.values-values.ensures.values) ∙ c.nth-v.ensures) (to_z-of_z w64 c.nth-v.result fits) c.in-None.ensures
 
 pub returns : goal.returns
 returns c =
