@@ -1,6 +1,8 @@
 //! The values of a cell in a list of their own, as packed rows read them.
 
-ghost use Rattle.std.specs.Prelude.{◌≡◌, [], IfOk, OnErr};
+ghost use Rattle.std.specs.Prelude.{◌≡◌, ◌≤◌, [], IfOk, IsTrue, OnErr};
+ghost use Rattle.ts_base.specs.Limits.{IsCellValue};
+ghost use Rattle.ts_domain.specs.Values.{run};
 
 use crate::places::is_run;
 use std::alloc::Global;
@@ -42,6 +44,43 @@ fn take_values(values: &mut Vec<i64>, domain: &Domain) -> Result<(), Memory>
     }
 }
 
+/// Puts the values of a domain into a list, in its memory: `count` values from `low` on, with gaps or without. After
+/// `Memory` the list is empty.
+fn take_all(
+    values: &mut Vec<i64>,
+    domain: &Domain,
+    low: i64,
+    count: usize,
+    gapless: bool,
+) -> Result<(), Memory>
+    requires low { IsCellValue low }
+    requires few { count ≤ 2000001 }
+    requires run { IsTrue gapless → domain.now ≡ run low count }
+    ensures taken { IfOk result (λ u. values.new.items ≡ domain.now) }
+    ensures emptied { OnErr result (values.new.items ≡ []) }
+{
+    if gapless {
+        take_run(values, low, count)
+    } else {
+        take_values(values, domain)
+    }
+}
+
+/// Puts `count` numbers from `low` on into a list, in its memory. After `Memory` the list is empty.
+fn take_run(values: &mut Vec<i64>, low: i64, count: usize) -> Result<(), Memory>
+    requires low { IsCellValue low }
+    requires few { count ≤ 2000001 }
+    ensures taken { IfOk result (λ u. values.new.items ≡ run low count) }
+    ensures emptied { OnErr result (values.new.items ≡ []) }
+{
+    values.clear();
+    values.reserve(count)?;
+    for i in 0..count {
+        values.push_reserved(low + i as i64);
+    }
+    Ok(())
+}
+
 impl CellValues {
     /// A list without values.
     pub fn empty(alloc: Global) -> CellValues
@@ -72,7 +111,7 @@ impl CellValues {
         let ends = domain.ends();
         let gapless = is_run(ends.low, ends.high, count);
         self.is_run = false;
-        take_values(&mut self.values, domain)?;
+        take_all(&mut self.values, domain, ends.low, count, gapless)?;
         self.is_run = gapless;
         Ok(())
     }
