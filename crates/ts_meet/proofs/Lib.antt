@@ -3,3 +3,4 @@ pub mod Marks
 pub mod Meeting
 pub mod Asking
 pub mod CallerLemmas
+pub mod Lanes

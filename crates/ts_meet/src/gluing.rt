@@ -4,7 +4,7 @@ ghost use Rattle.std.specs.Prelude.{◌≡◌, ◌≤◌, true, neg_ℤ, pos};
 ghost use Rattle.ts_automaton.specs.Registers.{Takes, spans_of, value_in};
 ghost use Rattle.ts_base.specs.declared.ext.Ext.TheVariants.{Int};
 ghost use Rattle.ts_base.specs.Limits.{IsCellValue};
-ghost use Rattle.ts_glue.specs.Glue.{GlueTakes, fold_of, folded_between, folded_both, glue_in, held_of, result_of};
+ghost use Rattle.ts_glue.specs.Glue.{GlueTakes, apart, fold_of, folded_between, folded_both, glue_in, held_of, result_of};
 ghost use Rattle.ts_hull.specs.Sealed.{sealed_spans};
 ghost use Rattle.ts_meet.specs.Joints.{IsFoldPlain, IsPlain, expression, folds_held, is_add, part_by};
 ghost use Rattle.ts_meet.specs.Sides.{ends_in};
@@ -33,6 +33,24 @@ pub(crate) struct Gluing {
 }
 
 impl Gluing {
+    /// How the registers are glued where no occurrence goes on.
+    #[inline(always)]
+    pub(crate) fn apart(operator: Op, wide: bool) -> Gluing
+        ensures value { expression result ≡ apart wide operator }
+        ensures worth { IsCellValue result.worth }
+    {
+        Gluing {
+            result: operator,
+            fold: operator,
+            worth: 0,
+            wide,
+            joins: false,
+            trims: false,
+            held_left: false,
+            held_right: false,
+        }
+    }
+
     /// The glued ends of two hulls before the mark. If all numbers that are added or taken away are small, sums are
     /// those of the lanes; otherwise they are clamped: in place where that is common, between wide automata of which one
     /// holds nothing.
@@ -70,7 +88,7 @@ impl Gluing {
 
     /// The glued ends before the mark, with the sums `S`. Each operator meets ends that it takes.
     #[inline(always)]
-    fn glued_by<S: Sums>(self, left: Side, right: Side) -> Ends
+    pub(crate) fn glued_by<S: Sums>(self, left: Side, right: Side) -> Ends
         requires fits { GlueTakes S.takes S.values (ends_in left) (ends_in right) (expression self) }
         requires worth { IsCellValue self.worth }
         ensures { result ≡ glue_in S.values (ends_in left) (ends_in right) (expression self) }
@@ -253,7 +271,7 @@ fn is_held_plain(side: Side) -> bool
 
 /// Whether an operator adds.
 #[inline(always)]
-fn is_add(op: Op) -> bool
+pub(crate) fn is_add(op: Op) -> bool
     ensures { result ≡ is_add op }
 {
     match op {

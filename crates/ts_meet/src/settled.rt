@@ -3,11 +3,13 @@
 //! Where no occurrence goes on from one state to the other, the span of a pair is made of the answers of both runs: the
 //! value isn't in it. Most often the first such pair settles all places of a cell, so that neither a value nor a whole
 //! span is needed. Each pair is followed along the places, so what it does is found once for all of them, and what is
-//! asked is two ends, found once before all pairs.
+//! asked is one end or two, found once before all pairs.
 
-ghost use Rattle.std.specs.Prelude.{◌≡◌, ℕ, ◌<◌, ◌≤◌, ◌≤ℤ◌, ℤ, IsTrue, false};
+ghost use Rattle.std.specs.Prelude.{◌≡◌, ◌⊎◌, ℕ, ◌<◌, ◌≤◌, ◌≤ℤ◌, ◌<ℤ◌, ℤ, pos, IsTrue, false};
+ghost use Rattle.ts_automaton.specs.declared.state.Mark.TheVariants.{Same};
 ghost use Rattle.ts_glue.specs.Glue.{is_join};
 ghost use Rattle.ts_glue.specs.Pairs.{Pair};
+ghost use Rattle.ts_meet.specs.Ends.{end_alone, needed_ends};
 ghost use Rattle.ts_meet.specs.Joints.{AreJoints};
 ghost use Rattle.ts_meet.specs.Meets.{glued_hull};
 ghost use Rattle.ts_meet.specs.Settled.{AlwaysReaches, ArePlaces, Between, HavePlaces};
@@ -16,8 +18,10 @@ ghost use Rattle.ts_sweep.specs.Packed.{AreSome, IsPacked};
 
 use crate::asked::Asked;
 use crate::joints::Joints;
+use crate::lane::{End, apart_lane};
 use crate::marked::marked;
-use ts_automaton::Op;
+use crate::needed::Needed;
+use ts_automaton::{Mark, Op};
 use ts_row::PackedRow;
 use ts_sweep::packed::{Ends, Packed, PackedHull};
 
@@ -43,14 +47,14 @@ pub fn settled_to<Q: Asked, const N: usize>(
         Q.excluded asked (glued_hull N p left.now right.now i x cells) → ⊥) }
 {
     match asked.enough() {
-        Some(enough) => settled_by(enough, joints, left, right, cells, from, to),
+        Some(enough) => settled_by(Needed::of(enough), joints, left, right, cells, from, to),
         None => from,
     }
 }
 
-/// The place up to which, from the place `from` on, spans of pairs of states reach the ends that are enough.
+/// The place up to which, from the place `from` on, spans of pairs of states reach the ends that are needed.
 fn settled_by<const N: usize>(
-    enough: Ends,
+    needed: Needed,
     joints: &Joints,
     left: &PackedRow<N>,
     right: &PackedRow<N>,
@@ -66,23 +70,95 @@ fn settled_by<const N: usize>(
     ensures from { from ≤ result }
     ensures to { result ≤ to }
     ensures settled { (p : Pair) → AreJoints p joints.now →
-        Between from result (IsSettled N enough p left.now right.now cells) }
+        Between from result (IsSettled N (needed_ends needed) p left.now right.now cells) }
+{
+    match needed {
+        Needed::Both(e) => settled_in(Needed::Both(e), joints, left, right, cells, from, to),
+        Needed::One(end, x) => settled_on(end, x, joints, left, right, cells, from, to),
+    }
+}
+
+/// The place up to which, from the place `from` on, spans of pairs of states reach the end that is given.
+#[inline(always)]
+fn settled_on<const N: usize>(
+    end: End,
+    given: i64,
+    joints: &Joints,
+    left: &PackedRow<N>,
+    right: &PackedRow<N>,
+    cells: u32,
+    from: usize,
+    to: usize,
+) -> usize
+    requires registers { 6 ≤ N }
+    requires lanes { N ≤ 64 }
+    requires left { HavePlaces N joints.now.left_states to left.now }
+    requires right { HavePlaces N joints.now.right_states to right.now }
+    requires order { from ≤ to }
+    ensures from { from ≤ result }
+    ensures to { result ≤ to }
+    ensures settled { (p : Pair) → AreJoints p joints.now →
+        Between from result (IsSettled N (end_alone end given) p left.now right.now cells) }
+{
+    match end {
+        End::Below => settled_in(
+            Needed::One(End::Below, given),
+            joints,
+            left,
+            right,
+            cells,
+            from,
+            to,
+        ),
+        End::Above => settled_in(
+            Needed::One(End::Above, given),
+            joints,
+            left,
+            right,
+            cells,
+            from,
+            to,
+        ),
+    }
+}
+
+/// The place up to which, from the place `from` on, spans of pairs of states reach the ends that are needed, which are
+/// constants here as far as a match tells them.
+#[inline(always)]
+fn settled_in<const N: usize>(
+    needed: Needed,
+    joints: &Joints,
+    left: &PackedRow<N>,
+    right: &PackedRow<N>,
+    cells: u32,
+    from: usize,
+    to: usize,
+) -> usize
+    requires registers { 6 ≤ N }
+    requires lanes { N ≤ 64 }
+    requires left { HavePlaces N joints.now.left_states to left.now }
+    requires right { HavePlaces N joints.now.right_states to right.now }
+    requires order { from ≤ to }
+    ensures from { from ≤ result }
+    ensures to { result ≤ to }
+    ensures settled { (p : Pair) → AreJoints p joints.now →
+        Between from result (IsSettled N (needed_ends needed) p left.now right.now cells) }
 {
     let mut at = from;
     for q in 0..joints.left_states {
         if at == to {
             return at;
         }
-        at = settled_with(enough, joints, q, left.column(q), right, cells, at, to);
+        at = settled_with(needed, joints, q, left.column(q), right, cells, at, to);
     }
     at
 }
 
 /// The place up to which, from `from` on, spans of pairs with the state `q` on the left reach the ends that are
-/// enough.
+/// needed.
 #[inline(always)]
 fn settled_with<const N: usize>(
-    enough: Ends,
+    needed: Needed,
     joints: &Joints,
     q: u8,
     left: &[PackedHull<N>],
@@ -100,23 +176,23 @@ fn settled_with<const N: usize>(
     ensures from { from ≤ result }
     ensures to { result ≤ to }
     ensures settled { (p : Pair) → AreJoints p joints.now →
-        Between from result (IsSettledBySome N enough p q left.now right.now cells) }
+        Between from result (IsSettledBySome N (needed_ends needed) p q left.now right.now cells) }
 {
     let mut at = from;
     for r in 0..joints.right_states {
         if at == to {
             return at;
         }
-        at = settled_between(enough, joints, q, r, left, right.column(r), cells, at, to);
+        at = settled_between(needed, joints, q, r, left, right.column(r), cells, at, to);
     }
     at
 }
 
-/// The place up to which, from `from` on, the spans of one pair of states reach the ends that are enough: `from` itself
+/// The place up to which, from `from` on, the spans of one pair of states reach the ends that are needed: `from` itself
 /// where an occurrence goes on from one to the other.
 #[inline(always)]
 fn settled_between<const N: usize>(
-    enough: Ends,
+    needed: Needed,
     joints: &Joints,
     q: u8,
     r: u8,
@@ -136,25 +212,57 @@ fn settled_between<const N: usize>(
     ensures from { from ≤ result }
     ensures to { result ≤ to }
     ensures settled { (p : Pair) → AreJoints p joints.now →
-        Between from result (IsSettledBy N enough p q r left.now right.now cells) }
+        Between from result (IsSettledBy N (needed_ends needed) p q r left.now right.now cells) }
 {
     if joints.are_joined(q, r) {
         return from;
     }
-    match joints.result {
-        Op::Add => settled_apart(enough, joints, Op::Add, left, right, cells, from, to),
-        Op::Max => settled_apart(enough, joints, Op::Max, left, right, cells, from, to),
-        Op::Min => settled_apart(enough, joints, Op::Min, left, right, cells, from, to),
+    if joints.wide {
+        settled_by_operator(needed, joints, true, left, right, cells, from, to)
+    } else {
+        settled_by_operator(needed, joints, false, left, right, cells, from, to)
     }
 }
 
-/// The place up to which, from `from` on, the spans of two states reach the ends that are enough, where no occurrence
+/// The place up to which, from `from` on, the spans of two states reach the ends that are needed, where no occurrence
+/// goes on from one to the other. `wide` is whether the automata are.
+#[inline(always)]
+fn settled_by_operator<const N: usize>(
+    needed: Needed,
+    joints: &Joints,
+    wide: bool,
+    left: &[PackedHull<N>],
+    right: &[PackedHull<N>],
+    cells: u32,
+    from: usize,
+    to: usize,
+) -> usize
+    requires registers { 6 ≤ N }
+    requires lanes { N ≤ 64 }
+    requires wide { wide ≡ joints.now.wide }
+    requires left { ArePlaces N to left.now }
+    requires right { ArePlaces N to right.now }
+    requires order { from ≤ to }
+    ensures from { from ≤ result }
+    ensures to { result ≤ to }
+    ensures settled { (p : Pair) (q r : ℕ) → AreJoints p joints.now → is_join p.table q r ≡ false →
+        Between from result (IsSettledBy N (needed_ends needed) p q r left.now right.now cells) }
+{
+    match joints.result {
+        Op::Add => settled_apart(needed, joints, Op::Add, wide, left, right, cells, from, to),
+        Op::Max => settled_apart(needed, joints, Op::Max, wide, left, right, cells, from, to),
+        Op::Min => settled_apart(needed, joints, Op::Min, wide, left, right, cells, from, to),
+    }
+}
+
+/// The place up to which, from `from` on, the spans of two states reach the ends that are needed, where no occurrence
 /// goes on from one to the other. `operator` is the one that joins results.
 #[inline(always)]
 fn settled_apart<const N: usize>(
-    enough: Ends,
+    needed: Needed,
     joints: &Joints,
     operator: Op,
+    wide: bool,
     left: &[PackedHull<N>],
     right: &[PackedHull<N>],
     cells: u32,
@@ -164,29 +272,31 @@ fn settled_apart<const N: usize>(
     requires registers { 6 ≤ N }
     requires lanes { N ≤ 64 }
     requires operator { operator ≡ joints.now.result }
+    requires wide { wide ≡ joints.now.wide }
     requires left { ArePlaces N to left.now }
     requires right { ArePlaces N to right.now }
     requires order { from ≤ to }
     ensures from { from ≤ result }
     ensures to { result ≤ to }
     ensures settled { (p : Pair) (q r : ℕ) → AreJoints p joints.now → is_join p.table q r ≡ false →
-        Between from result (IsSettledBy N enough p q r left.now right.now cells) }
+        Between from result (IsSettledBy N (needed_ends needed) p q r left.now right.now cells) }
 {
     for i in from..to {
-        if !settles(enough, joints, operator, &left[i], &right[i], cells) {
+        if !settles(needed, joints, operator, wide, &left[i], &right[i], cells) {
             return i;
         }
     }
     to
 }
 
-/// Whether the span of two hulls reaches the ends that are enough, if any series reaches both states and no occurrence
+/// Whether the span of two hulls reaches the ends that are needed, if any series reaches both states and no occurrence
 /// goes on from one to the other.
 #[inline(always)]
 fn settles<const N: usize>(
-    enough: Ends,
+    needed: Needed,
     joints: &Joints,
     operator: Op,
+    wide: bool,
     left: &PackedHull<N>,
     right: &PackedHull<N>,
     cells: u32,
@@ -194,14 +304,87 @@ fn settles<const N: usize>(
     requires registers { 6 ≤ N }
     requires lanes { N ≤ 64 }
     requires operator { operator ≡ joints.now.result }
+    requires wide { wide ≡ joints.now.wide }
     requires left { IsPacked N left.now.at }
     requires right { IsPacked N right.now.at }
     ensures { IsTrue result → (p : Pair) (q r : ℕ) → AreJoints p joints.now → is_join p.table q r ≡ false →
-        AlwaysReaches enough p (with_hull N q left.now) (with_hull N r right.now) cells }
+        AlwaysReaches (needed_ends needed) p (with_hull N q left.now) (with_hull N r right.now) cells }
 {
     left.is_some()
         && right.is_some()
-        && answers_settle(enough, joints, operator, left, right, cells)
+        && some_settle(needed, joints, operator, wide, left, right, cells)
+}
+
+/// Whether the span of the answers of both runs reaches the ends that are needed, where both states are reached.
+#[inline(always)]
+fn some_settle<const N: usize>(
+    needed: Needed,
+    joints: &Joints,
+    operator: Op,
+    wide: bool,
+    left: &PackedHull<N>,
+    right: &PackedHull<N>,
+    cells: u32,
+) -> bool
+    requires registers { 6 ≤ N }
+    requires lanes { N ≤ 64 }
+    requires operator { operator ≡ joints.now.result }
+    requires wide { wide ≡ joints.now.wide }
+    requires left { AreSome N left.now.at }
+    requires right { AreSome N right.now.at }
+    ensures { IsTrue result → (p : Pair) (q r : ℕ) → AreJoints p joints.now → is_join p.table q r ≡ false →
+        AlwaysReaches (needed_ends needed) p (with_hull N q left.now) (with_hull N r right.now) cells }
+{
+    match needed {
+        Needed::Both(e) => answers_settle(e, joints, operator, left, right, cells),
+        Needed::One(end, x) => end_settles(end, x, joints, operator, wide, left, right),
+    }
+}
+
+/// Whether an end of the span of the answers of both runs reaches the one that is given, where both states are reached.
+#[inline(always)]
+fn end_settles<const N: usize>(
+    end: End,
+    given: i64,
+    joints: &Joints,
+    operator: Op,
+    wide: bool,
+    left: &PackedHull<N>,
+    right: &PackedHull<N>,
+) -> bool
+    requires registers { 6 ≤ N }
+    requires operator { operator ≡ joints.now.result }
+    requires wide { wide ≡ joints.now.wide }
+    requires left { AreSome N left.now.at }
+    requires right { AreSome N right.now.at }
+    ensures { IsTrue result → (p : Pair) (q r cells : ℕ) → AreJoints p joints.now → is_join p.table q r ≡ false →
+        cells ≤ 4294967295 →
+        AlwaysReaches (end_alone end given) p (with_hull N q left.now) (with_hull N r right.now) cells }
+{
+    reaches_under(
+        joints.mark,
+        apart_lane(end, wide, operator, left, right),
+        given,
+    )
+}
+
+/// Whether an end is the one given or farther out, under a mark too: a mark may bring in an infinite end alone.
+#[inline(always)]
+fn reaches_under(mark: Mark, x: i64, given: i64) -> bool
+    ensures { IsTrue result → (given ≤ℤ x) × ((x <ℤ pos 9223372036854775807) ⊎ (mark ≡ Same)) }
+{
+    given <= x && (x < i64::MAX || is_same(mark))
+}
+
+/// Whether a mark changes nothing.
+#[inline(always)]
+fn is_same(mark: Mark) -> bool
+    ensures { IsTrue result → mark ≡ Same }
+{
+    match mark {
+        Mark::Same => true,
+        Mark::Zero | Mark::Cells => false,
+    }
 }
 
 /// Whether the span of the answers of both runs reaches the ends that are enough, where both states are reached.

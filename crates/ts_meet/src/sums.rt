@@ -65,7 +65,7 @@ fn number(x: i64) -> Ends
 
 /// Ends with lower and upper exchanged: those of what is taken away.
 #[inline(always)]
-fn crossed(e: Ends) -> Ends
+pub(crate) fn crossed(e: Ends) -> Ends
     ensures { result ≡ crossed e }
 {
     Ends {

@@ -1,4 +1,5 @@
 use Rattle.std.proofs.Common.{subst, arith}
+use Rattle.ts_meet.specs.Ends.{needed_ends}
 use Rattle.ts_meet.specs.Settled.{AlwaysReaches, with_hull, with_hull_at}
 use Rattle.ts_meet.proofs.Asking.{none_between, one_more, read_there}
 use Rattle.ts_meet.proofs.settled.settled_apart.Goals as goal
@@ -9,7 +10,7 @@ loop-i-init g c p q r h apart = none_between _ c.args.from
 pub loop-i-preserved : goal.loop-i-preserved
 loop-i-preserved g c p q r h apart =
     let left = c.args.left.now in let right = c.args.right.now in let i = c.loop-i.i in
-    let reaches = AlwaysReaches c.args.enough p in
+    let reaches = AlwaysReaches (needed_ends c.args.needed) p in
     let told = c.settles.ensures c.if-not-settles.false p q r h apart in
     one_more _ c.args.from i (c.loop-i.invariant p q r h apart)
     (subst (λ z. reaches (with_hull_at g.row.N q left i) (with_hull g.row.N r z) c.args.cells)

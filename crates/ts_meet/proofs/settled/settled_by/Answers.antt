@@ -1,26 +1,19 @@
-use Rattle.std.proofs.Common.{◌<◌, sym, subst, length, arith, rules}
-use Rattle.ts_meet.specs.Settled.{ArePlaces, IsSettledBySome}
-use Rattle.ts_meet.proofs.Asking.{and_between, none_between}
+use mir.Val.{SFits}
+use Rattle.std.proofs.Common.{sym, subst, w64, rules}
+use Rattle.std.proofs.lemmas.Int.{to_z-of_z}
+use Rattle.ts_meet.specs.Ends.{end_alone, needed_ends}
+use Rattle.ts_meet.specs.Settled.{IsSettled}
 use Rattle.ts_meet.proofs.settled.settled_by.Goals as goal
 
-pub loop-q-init : goal.loop-q-init
-loop-q-init g c = (omega arith, c.requires.order, λ p h. none_between _ c.args.from)
+pub returns-in-Both-clause-settled : goal.returns-in-Both-clause-settled
+returns-in-Both-clause-settled g c p h i first last =
+    subst (λ n. IsSettled g.row.N (needed_ends n) p c.args.left.now c.args.right.now c.args.cells i) (sym c.in-Both.is)
+    (c.settled_in.ensures.settled p h i first last)
 
-pub settled_with-at-requires : goal.settled_with-at-requires
-settled_with-at-requires g c =
-    let below : c.loop-q.q < c.args.joints.now.left_states = omega (arith, c.loop-q-test.true, c.loop-q.auto.q-end) in
-    let places = subst (ArePlaces g.row.N c.args.to) (sym c.column.ensures) (c.requires.left.places c.loop-q.q below) in
-    (search rules, (search rules, (c.requires.registers, (c.requires.lanes, (below, (places, (c.requires.right, c.loop-q.invariant.1)))))))
-
-pub loop-q-preserved : goal.loop-q-preserved
-loop-q-preserved g c =
-    let right = c.args.right.now in let q = c.loop-q.q in
-    let below : q < c.args.joints.now.left_states = omega (arith, c.loop-q-test.true, c.loop-q.auto.q-end) in
-    let told = c.settled_with-at.ensures in let before = c.loop-q.invariant in
-    let from = told.from in let so_far = before.0 in (
-      omega (arith, so_far, from),
-      told.to,
-      λ p h. and_between _ c.args.from c.loop-q.at c.settled_with-at.result (before.2 p h)
-          (λ i first last. let inside : q < length p.forward.states = (let k = h.left_states in omega (arith, k, below)) in
-          (q, inside, subst (λ z. IsSettledBySome g.row.N c.args.enough p q z right c.args.cells i) c.column.ensures (told.settled p h i first last))),
-    )
+pub returns-in-One-clause-settled : goal.returns-in-One-clause-settled
+returns-in-One-clause-settled g c p h i first last =
+    let fits : SFits w64 c.in-One.x = search rules in
+    let left = c.args.left.now in let right = c.args.right.now in
+    subst (λ n. IsSettled g.row.N (needed_ends n) p left right c.args.cells i) (sym c.in-One.is)
+    (subst (λ z. IsSettled g.row.N (end_alone c.in-One.end z) p left right c.args.cells i) (to_z-of_z w64 c.in-One.x fits)
+    (c.settled_on.ensures.settled p h i first last))

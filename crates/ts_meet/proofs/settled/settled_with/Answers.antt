@@ -1,4 +1,5 @@
 use Rattle.std.proofs.Common.{◌<◌, sym, subst, length, arith, rules}
+use Rattle.ts_meet.specs.Ends.{needed_ends}
 use Rattle.ts_meet.specs.Settled.{ArePlaces, IsSettledBy}
 use Rattle.ts_meet.proofs.Asking.{and_between, none_between}
 use Rattle.ts_meet.proofs.settled.settled_with.Goals as goal
@@ -22,5 +23,5 @@ loop-r-preserved g c =
       told.to,
       λ p h. and_between _ c.args.from c.loop-r.at c.settled_between-at.result (before.2 p h)
           (λ i first last. let inside : r < length p.reverse.states = (let k = h.right_states in omega (arith, k, below)) in
-          (r, inside, subst (λ z. IsSettledBy g.row.N c.args.enough p c.args.q r left z c.args.cells i) c.column.ensures (told.settled p h i first last))),
+          (r, inside, subst (λ z. IsSettledBy g.row.N (needed_ends c.args.needed) p c.args.q r left z c.args.cells i) c.column.ensures (told.settled p h i first last))),
     )
