@@ -1,5 +1,5 @@
 -- How much memory the rows of machines may take that are kept from box to box.
-use Rattle.std.specs.Prelude.{ℕ, ℤ, ◌+◌, ◌*◌, ◌≤◌, ◌⊎◌, List, [], ◌∷◌, Option, if◌then◌else◌, length, nat_le}
+use Rattle.std.specs.Prelude.{ℕ, ℤ, ◌+◌, ◌*◌, List, [], ◌∷◌, Option, if◌then◌else◌, length, max, min}
 use Rattle.ts_base.specs.declared.range.Range.{Range}
 use Rattle.ts_automaton.specs.Body.{Body}
 use Rattle.ts_bound.specs.Blocks.{back_states}
@@ -9,7 +9,7 @@ use Rattle.ts_filter.specs.Boxes.{Box}
 
 -- a cell counts for its values, and for eight at least
 abbrev pub counted : List ℤ → ℕ
-counted values = if nat_le (length values) 8 then 8 else length values
+counted values = max (length values) 8
 
 -- what cell k counts for, if it is looked at
 abbrev pub counted_at : Option Range → ℕ → List ℤ → ℕ
@@ -37,6 +37,6 @@ all_bytes (m ∷ ms) cells = row_bytes m cells + all_bytes ms cells
 abbrev pub most_bytes : ℕ
 most_bytes = 100000000
 
--- the number is as great, or the greatest that there is
-abbrev pub AtLeast : ℕ → ℕ → Type 0
-AtLeast n x = (n ≤ x) ⊎ (18446744073709551615 ≤ x)
+-- the number, or the greatest one of 64 bits where it is greater than that
+abbrev pub saturated : ℕ → ℕ
+saturated n = min n 18446744073709551615

@@ -1,10 +1,11 @@
 //! Whether the rows of all machines may be kept from box to box.
 
-ghost use Rattle.std.specs.Prelude.{◌≡◌, ◌<◌, ◌≤◌, ◌+◌, ◌*◌, IsTrue, length, map};
+ghost use Rattle.std.specs.Prelude.{◌≡◌, ◌≤◌, ◌+◌, ◌*◌, ◌↔◌, IsTrue, length, map};
 ghost use Rattle.ts_bound.specs.Blocks.{back_states};
 ghost use Rattle.ts_bound.specs.Looks.{is_looked};
 ghost use Rattle.ts_bound.specs.TermSpans.{automata_of};
-ghost use Rattle.ts_filter.specs.Room.{AtLeast, all_bytes, counted_at, hull_bytes, most_bytes, row_bytes, values_from};
+ghost use Rattle.ts_filter.specs.Room.{all_bytes, counted_at, hull_bytes, most_bytes, row_bytes};
+ghost use Rattle.ts_filter.specs.Room.{saturated, values_from};
 ghost use Rattle.ts_glue.specs.Machines.{forward_of, pair_of};
 
 use ts_base::Range;
@@ -28,7 +29,7 @@ pub(crate) const SMALL_ROW: usize = 16;
 /// Whether the rows of these machines, of a box with at most these values in its cells, take no more. A machine with a
 /// window has rows of the cells of it alone.
 pub(crate) fn has_room(machines: &[Machine], cells: &[Domain]) -> bool
-    ensures { IsTrue result → all_bytes (map automata_of machines.now) cells.now ≤ most_bytes }
+    ensures { IsTrue result ↔ (all_bytes (map automata_of machines.now) cells.now ≤ most_bytes) }
 {
     let mut bytes = 0;
     for m in machines {
@@ -39,7 +40,7 @@ pub(crate) fn has_room(machines: &[Machine], cells: &[Domain]) -> bool
 
 /// How many bytes the rows of a machine take, of a box with these cells.
 fn bytes_of(m: &Machine, cells: &[Domain]) -> u64
-    ensures { AtLeast (row_bytes (automata_of m.now) cells.now) result }
+    ensures { result ≡ saturated (row_bytes (automata_of m.now) cells.now) }
 {
     let hulls = product(values_of(m.window(), cells), states_of(m));
     product(hulls, hull_of(m))
@@ -47,21 +48,21 @@ fn bytes_of(m: &Machine, cells: &[Domain]) -> u64
 
 /// The sum of two numbers, or the greatest number.
 fn sum(a: u64, b: u64) -> u64
-    ensures { AtLeast (a + b) result }
+    ensures { result ≡ saturated (a + b) }
 {
     a.saturating_add(b)
 }
 
 /// The product of two numbers, or the greatest number.
 fn product(a: u64, b: u64) -> u64
-    ensures { AtLeast (a * b) result }
+    ensures { result ≡ saturated (a * b) }
 {
     a.saturating_mul(b)
 }
 
 /// How many values the cells have together that are looked at. A cell counts for half of `SMALL_ROW` at least.
 fn values_of(window: Option<Range>, cells: &[Domain]) -> u64
-    ensures { AtLeast (values_from window 1 cells.now) result }
+    ensures { result ≡ saturated (values_from window 1 cells.now) }
 {
     let mut values = 0;
     for i in 0..cells.len() {
@@ -72,7 +73,7 @@ fn values_of(window: Option<Range>, cells: &[Domain]) -> u64
 
 /// What the cell at place `i`, counted from 0, counts for, if it is looked at.
 fn counted(window: Option<Range>, i: usize, domain: &Domain) -> u64
-    ensures { counted_at window (i + 1) domain.now ≤ result }
+    ensures { result ≡ counted_at window (i + 1) domain.now }
 {
     if is_inside(window, i) {
         domain.size().max(SMALL_ROW as u64 / 2)
@@ -81,13 +82,13 @@ fn counted(window: Option<Range>, i: usize, domain: &Domain) -> u64
     }
 }
 
-/// Whether the cell at place `i`, counted from 0, is looked at.
+/// Whether the cell at place `i`, counted from 0, is looked at. No window reaches beyond the numbers of 32 bits.
 fn is_inside(window: Option<Range>, i: usize) -> bool
-    ensures { IsTrue (is_looked window (i + 1)) → IsTrue result }
+    ensures { result ≡ is_looked window (i + 1) }
 {
     match u32::try_from(i.saturating_add(1)) {
         Ok(k) => is_looked(window, k),
-        Err(_) => true,
+        Err(_) => window.is_none(),
     }
 }
 
@@ -104,8 +105,7 @@ fn hull_of(m: &Machine) -> u64
 
 /// How many states the automata of the machine have, the forward and the reverse one.
 fn states_of(m: &Machine) -> u64
-    ensures count { result ≡ length (forward_of m.now).states + back_states (pair_of m.now) }
-    ensures some { 0 < result }
+    ensures { result ≡ length (forward_of m.now).states + back_states (pair_of m.now) }
 {
     let reverse = match m.reverse() {
         Some(a) => a.states(),
