@@ -30,7 +30,7 @@ columns (Wide row) = row
 abbrev pub columns_without : {X : Type 0} → (from to : ℕ) → List (List X) → List (List X)
 columns_without from to columns = map (λ column. remove_range column from to) columns
 
--- so is the row
+-- the row without the hulls at the places from `from` up to `to` of each of its columns
 abbrev pub row_without : (from to : ℕ) → AnyRow → AnyRow
 row_without from to (Narrow row) = Narrow (columns_without from to row)
 row_without from to (Wide row) = Wide (columns_without from to row)

@@ -47,7 +47,7 @@ abbrev pub IsSide : Option Pair → Box → List ℤ → BackSide → Type 0
 IsSide None behind values side = ⊥
 IsSide (Some p) behind values side = AreJoints p side.joints.now × IsRowOf p.reverse behind values side.row.now
 
--- that of cell k, which reads the cells after it
+-- the row is that of cell k of the reverse automaton, which reads the cells after it, with how the pair is glued
 abbrev pub IsBackSide : Automata → ℕ → Box → BackSide → Type 0
 IsBackSide a k b side = IsSide a.pair (seen_after a k b) (values_at k b) side
 

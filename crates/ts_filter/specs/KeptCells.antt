@@ -20,7 +20,7 @@ abbrev pub IsSpared : List Require → Spans → Box → (term k : ℕ) → Type
 IsSpared requirements s b term k =
     (v : ℤ) (j : ℕ) (r : Require) → IsRequirement requirements j r → r.term ≡ term → IsDrop requirements s k v j b → ⊥
 
--- none of them is refuted at any cell
+-- no requirement on the term is refuted at any cell
 abbrev pub IsAliveTerm : List Require → Spans → Box → ℕ → Type 0
 IsAliveTerm requirements s b term =
     (p j : ℕ) (r : Require) → IsRequirement requirements j r → r.term ≡ term → IsRefuted requirements s j p b → ⊥
@@ -48,7 +48,7 @@ with_alive t = record { alive = true; cells = t.cells }
 abbrev pub with_spared : ℕ → TermKept → TermKept
 with_spared k t = record { alive = t.alive; cells = set t.cells (k - 1) true }
 
--- the same with more known of one term
+-- what is known of the terms, with more known of one of them
 abbrev pub with_known : (TermKept → TermKept) → ℕ → List TermKept → List TermKept
 with_known more term kept = set kept term (more (get_or kept term (unknown 0)))
 
@@ -72,7 +72,7 @@ pub record IsTermKept (requirements : List Require) (term : ℕ) (a : Automata) 
   pub spared : (i : ℕ) (r : Removal) → slice_get t.cells i ≡ Some true →
       IsDropAt requirements term a b (i + 1) r → ⊥
 
--- the same, where anything is known of it
+-- what is known of the term whose machine this is, if anything is, is so, told by its spans in the whole box
 abbrev pub IsKeptIfKnown : List Require → ℕ → Automata → Box → Option TermKept → Type 0
 IsKeptIfKnown requirements term a b None = Unit {0}
 IsKeptIfKnown requirements term a b (Some t) = IsTermKept requirements term a b t

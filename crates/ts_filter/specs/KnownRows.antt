@@ -24,7 +24,8 @@ use Rattle.ts_filter.specs.TermDrops.{IsQuiet, IsTermDrop}
 abbrev pub AreFirst : Body → Box → Rows → Type 0
 AreFirst a cells rows = rows ≡ take (length rows) (forward_rows a cells)
 
--- they are made by the plan of the automaton; the known ones are, and the others go on
+-- the rows are made by the plan of the automaton; the known ones are those of the cells that it reads first, and from a
+-- place on each of those that lie there is followed by its next one
 pub record AreRows (a : Body) (cells : Box) (s : Stack) : Type 0 where
   pub planned : IsPlanned a s.planned
   pub known : AreFirst a cells s.known
@@ -62,12 +63,13 @@ abbrev pub AreBehind : Option Pair → Box → Rows → Type 0
 AreBehind None b rows = Unit {0}
 AreBehind (Some p) b rows = AreFirst p.reverse (in_order FromLast b) rows
 
--- so do these go on
+-- of the backward rows that lie there, each is followed by its next one from a place on; a machine that can't be split
+-- has none
 abbrev pub GoOnBehind : Option Pair → Box → Laid → Type 0
 GoOnBehind None b l = Unit {0}
 GoOnBehind (Some p) b l = GoOn p.reverse (in_order FromLast b) l.rows l.from
 
--- they are rows of these cells, and no drop is possible at these by the requirements
+-- the rows of a machine are rows of these cells, and the requirements that are kept with them drop no value there
 pub record AreRowsOf (cells : Box) (t : KnownRows) : Type 0 where
   pub ahead : AreFirst t.machine.forward (in_order FromFirst cells) t.ahead
   pub behind : AreBehind t.machine.pair cells t.behind
@@ -114,6 +116,6 @@ pub record HasRowsAt (k : ℕ) (cells : Box) (t : KnownRows) : Type 0 where
   pub ahead : k ≤ length t.ahead
   pub behind : k < length cells → length cells - k < length t.behind
 
--- those of cell k of the box are, which is looked at
+-- the rows of cell k of the box are known, a cell that the machine looks at
 abbrev pub HasRows : ℕ → Box → KnownRows → Type 0
 HasRows k b t = HasRowsAt (place_in t.machine.window k) (looked_at t.machine.window b) t

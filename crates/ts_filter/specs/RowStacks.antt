@@ -51,7 +51,7 @@ abbrev pub IsFollowed : Body → Box → Rows → ℕ → Type 0
 IsFollowed a cells rows i =
     get_or rows (i + 1) [] ≡ next_row a (get_or cells i []) (get_or rows i []) (get_or cells (i + 1) [])
 
--- so it is from a place on, over these cells
+-- there are no more rows than cells, and from a place on each row is followed by its next one over these cells
 pub record GoOn (a : Body) (cells : Box) (rows : Rows) (from : ℕ) : Type 0 where
   pub few : length rows ≤ length cells
   pub each : (i : ℕ) → from ≤ i → i + 1 < length rows → IsFollowed a cells rows i
@@ -113,7 +113,8 @@ pub record IsSpliced (count end : ℕ) (gone : Gone) (old new : Stack) : Type 0 
   pub is_cut : IsCut count end old cut
   pub more : IsOneMore (without old.planned.states gone (get_or old.known count [])) cut new
 
--- so it may be where the values that are gone are known
+-- only the first `count` rows are known still; where it is known which values the next one's cell has lost, that row
+-- may be known too, without those values
 abbrev pub IsLeft : (count end : ℕ) → Option Gone → (old new : Stack) → Type 0
 IsLeft count end None old new = IsCut count end old new
 IsLeft count end (Some gone) old new = IsCut count end old new ⊎ IsSpliced count end gone old new

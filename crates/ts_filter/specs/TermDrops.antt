@@ -19,7 +19,7 @@ pub record IsRefuting (requirements : List Require) (term : ℕ) (s : Span) (j :
   pub of_term : require.term ≡ term
   pub refutes : Refutes require.op require.bound s
 
--- there is one
+-- the span refutes some requirement of the term
 abbrev pub RefutesSome : List Require → ℕ → Span → Type 0
 RefutesSome requirements term s = (j : ℕ) × IsRefuting requirements term s j
 
@@ -28,7 +28,7 @@ abbrev pub NoneFrom : List Require → ℕ → ℕ → Type 0
 NoneFrom requirements term end =
     (i : ℕ) (r : Require) → slice_get requirements i ≡ Some r → r.term ≡ term → i < end
 
--- the first requirement that is so; none where none is
+-- the first requirement of the term that the span refutes; none where it refutes none
 abbrev pub IsFirstRefuting : List Require → ℕ → Span → Option ℕ → Type 0
 IsFirstRefuting requirements term s None = (j : ℕ) → IsRefuting requirements term s j → ⊥
 IsFirstRefuting requirements term s (Some j) =
@@ -41,11 +41,11 @@ pub record IsTermDrop (requirements : List Require) (term : ℕ) (a : Automata) 
   pub there : Contains (values_at r.cell b) r.value
   pub refuting : IsRefuting requirements term (value_span a r.cell b r.value) r.require
 
--- the same at cell k alone
+-- the drop is at cell k, and by a requirement of the term whose machine this is
 abbrev pub IsDropAt : List Require → ℕ → Automata → Box → ℕ → Removal → Type 0
 IsDropAt requirements term a b k r = (r.cell ≡ k) × IsTermDrop requirements term a b r
 
--- the same at the cells up to one
+-- the drop is at a cell up to cell `to`, and by a requirement of the term whose machine this is
 abbrev pub IsDropUpTo : List Require → ℕ → Automata → Box → ℕ → Removal → Type 0
 IsDropUpTo requirements term a b to r = IsTermDrop requirements term a b r × (r.cell ≤ to)
 

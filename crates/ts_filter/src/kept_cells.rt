@@ -25,7 +25,8 @@ impl Model for KeptTerm {
     ghost view = { λ t. record { alive = t.alive; cells = t.cells.items } };
 }
 
-/// For each term, the cells of a box at which no drop by its requirements is possible, as far as its user knows.
+/// For each term, as far as its user knows: whether its requirements are refuted nowhere in a box, and at which cells
+/// they drop no value.
 #[derive(Drop)]
 pub struct KeptCells {
     each: Vec<KeptTerm>,

@@ -33,7 +33,7 @@ use ts_automaton::Automaton;
 use ts_base::Memory;
 use ts_row::{Cell, Plan};
 
-/// One hull for each value of a cell and each state, packed. `room` is for how many values there is memory.
+/// One hull for each value of a cell and each state, packed. `room` is for how many values it may have memory.
 #[derive(Drop)]
 pub(crate) struct HullRow {
     pub(crate) packed: AnyRow,

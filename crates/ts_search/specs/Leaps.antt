@@ -48,7 +48,8 @@ TakesFreeValues c b (Wide k t) =
     (v : ℤ) (j : ℕ) → Contains (values_above t (values_at k b)) v →
     IsRefuted c.model.requirements c.spans j k (only k v b) → ⊥
 
--- so many splits of the box one below the other do so
+-- none of so many splits, of the box and then of each lower side, takes away a value with which a requirement is
+-- refuted at the cell
 abbrev pub AreTried : Search → ℕ → Box → Type 0
 AreTried c zero b = Unit {0}
 AreTried c (suc n) b = TakesFreeValues c b (form b) × AreTried c n (lower b (form b))

@@ -27,14 +27,15 @@ use Rattle.ts_search.specs.declared.witnesses.Witnesses.{Witnesses}
 abbrev pub Seats : List ℤ → ℕ → List ℤ → List ℤ → Type 0
 Seats old i values new = (v : ℤ) × Contains values v × (new ≡ set old i v)
 
--- the witness is one of the machine; where its series is known to meet the requirement, no box with it refutes that
+-- the witness is one of the machine, of values that cells may have; what is known of other values in its cells is so;
+-- where its series is known to meet the requirement, no box with it refutes that
 pub record IsHeld (r : Require) (s : Shown) : Type 0 where
   pub witness : IsWitness s.machine.now s.witness
   pub cells : AreCellValues (series_of s.witness)
   pub spared : IsSpared s.machine.now r s.spared
   pub alive : IsTrue s.met → IsAlive (automata_of s.machine.now) r (series_of s.witness)
 
--- it is so of each witness, with the requirement at its place
+-- each witness stands in this relation to the requirement at its place
 abbrev pub OfEach : Problem → Witnesses → (Require → Shown → Type 0) → Type 0
 OfEach q w Is =
     (i : ℕ) (s : Shown) (r : Require) → slice_get w.each.items i ≡ Some s →
@@ -53,7 +54,7 @@ pub record AreHeld (q : Problem) (w : Witnesses) : Type 0 where
       (λ r s. s.spared.cells.now ≡ looked_at (window_of s.machine.now) (search_of q).model.cells)
   pub sized : AreSized (length q.model.now.terms.entries) (last (search_of q)) w.kept
 
--- and each series is one of the box
+-- the witnesses belong to the problem, and the series of each lies in the box, in the cells that its machine looks at
 pub record AreShown (q : Problem) (w : Witnesses) (b : Box) : Type 0 where
   pub held : AreHeld q w
   pub inside : OfEach q w (λ r s. InBox (series_of s.witness) (looked_at (window_of s.machine.now) b))

@@ -42,7 +42,8 @@ abbrev pub SettledBy : Search → Box → Bool → Type 0
 SettledBy c b true = next_drop c.model c.spans b ≡ None
 SettledBy c b false = (j p : ℕ) × IsRefuted c.model.requirements c.spans j p b
 
--- the second box is the first after some drops
+-- the second box lies in the model's, and both boxes come to the same one after all drops; no drop is left in it, or a
+-- requirement is refuted on it
 pub record IsSettled (c : Search) (before after : Box) (all : Bool) : Type 0 where
   pub part : IsPart after c.model.cells
   pub same : after_drops c.model c.spans after ≡ after_drops c.model c.spans before

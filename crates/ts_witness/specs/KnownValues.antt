@@ -20,8 +20,8 @@ MeetsWith b r y i v = compares r.op r.bound (answer b (set y i v)) ≡ true
 abbrev pub IsEmpty : Known → Type 0
 IsEmpty e = e.greatest <ℤ e.least
 
--- where the runs have that beside the place of a series of n cells, it meets the requirement with each value of the cell
--- between the ends
+-- where the runs have these sides beside the place i of a series of n cells, it meets the requirement with each value
+-- of the cell between the ends; of a machine that can't be split nothing is said
 abbrev pub IsKnown : Machine → Require → ℕ → List ℤ → ℕ → Known → Type 0
 IsKnown m r n values i e =
     (p : Pair) → pair_of m ≡ Some p → (v : ℤ) → Contains values v → e.least ≤ℤ v → v ≤ℤ e.greatest →

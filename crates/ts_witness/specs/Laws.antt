@@ -46,13 +46,14 @@ pub record IsAsked (a : Automata) (r : Require) (y : List ℤ) (m : ModelParts) 
     pub require : IsRequirement m.requirements j r
     pub series : InBox y (looked_at a.window b)
 
--- on any such box the requirement is refuted at no cell
+-- on each box that holds the series y in the cells that are looked at, the requirement is refuted at no cell
 abbrev pub IsAlive : Automata → Require → List ℤ → Type 0
 IsAlive a r y =
     (m : ModelParts) (s : Spans) (j : ℕ) (b : Box) → IsAsked a r y m s j b →
     (p : ℕ) → is_refuted m.requirements s j p b ≡ false
 
--- and there it doesn't drop the value v of the cell at the place i, counted from 1, of those that are looked at
+-- on each box that holds the series y in the cells that are looked at, the requirement doesn't drop the value v of the
+-- cell at the place i, counted from 1, of those cells
 abbrev pub IsKept : Automata → Require → List ℤ → ℕ → ℤ → Type 0
 IsKept a r y i v =
     (m : ModelParts) (s : Spans) (j : ℕ) (b : Box) → IsAsked a r y m s j b →

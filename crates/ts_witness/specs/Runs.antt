@@ -25,6 +25,7 @@ abbrev pub arrived : Body → ℕ → Side → ℤ → Standing Ext
 arrived b zero s v = start_of b
 arrived b (suc i) s v = step_of b (standing_of s.at) s.cell v
 
--- it has that beside the place on this series
+-- what the automaton has beside the place i is that of this series: with any value there it arrives where it stands
+-- after the cells before and that value
 abbrev pub IsSide : Body → List ℤ → ℕ → Side → Type 0
 IsSide b cells i s = (v : ℤ) → arrived b i s v ≡ after b (take i cells ++ v ∷ [])

@@ -107,8 +107,8 @@ impl<'a> Spared<'a> {
         Ok(Spared { cells, each })
     }
 
-    /// Whether the series meets the requirement with each value of cell `k`, counted from 1, from `low` to `high`,
-    /// which are two of them. The machine is that of its term, and can be split. If so, the requirement drops none of
+    /// Whether the series meets the requirement with each value of cell `k`, counted from 1, from `low`, which is one
+    /// of them, to `high`. The machine is that of its term, and can be split. If so, the requirement drops none of
     /// these values there on any box with the series. It may say no all the same: there may be too many values to be
     /// tried, or the series doesn't meet the requirement with one that the box hasn't.
     pub fn keeps_between(
