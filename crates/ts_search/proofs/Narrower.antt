@@ -1,5 +1,6 @@
 -- What excludes a box excludes each box inside it, by the marks of the machines.
-use Rattle.std.proofs.Common.{◌≡◌, ℕ, zero, suc, ◌-◌, ◌<◌, ◌≤◌, ℤ, pos, ◌≤ℤ◌, ◌+ℤ◌, Bool, true, false, List, [], ◌∷◌, get_or, length, map, Option, Some, None, slice_get, refl, sym, ◌∙◌, ap, subst, arith}
+use Rattle.std.proofs.Common.{◌≡◌, ◌↔◌, ℕ, zero, suc, ◌+◌, ◌-◌, ◌<◌, ◌≤◌, ℤ, pos, ◌≤ℤ◌, ◌+ℤ◌, Bool, true, false, List, [], ◌∷◌, get_or, length, map, Option, Some, None, slice_get, refl, sym, ◌∙◌, ap, subst, arith}
+use Rattle.std.proofs.lemmas.Bool.{false≢true}
 use Rattle.std.proofs.lemmas.Int.{ints}
 use Rattle.std.proofs.lemmas.List.{length-map}
 use Rattle.std.proofs.lemmas.Option.{same_Some, slice_get-get_or, slice_get-map, slice_get_within}
@@ -21,14 +22,16 @@ use Rattle.ts_glue.specs.Pairs.{Pair}
 use Rattle.ts_model.specs.declared.model.Op.{Op}
 use Rattle.ts_model.specs.declared.model.Op.TheVariants.{AtMost}
 use Rattle.ts_model.specs.declared.model.Require.{Require}
-use Rattle.ts_model.specs.ModelParts.{StatedTerm}
+use Rattle.ts_model.specs.ModelParts.{ModelParts, StatedTerm}
 use Rattle.ts_model.specs.Views.{model_parts}
 use Rattle.ts_filter.specs.Boxes.{Box, IsInside}
 use Rattle.ts_filter.specs.Excluded.{Refutes}
 use Rattle.ts_filter.proofs.BoxParts.{inside_length}
+use Rattle.ts_filter.proofs.SoundLaws.{each_at}
 use Rattle.ts_filter.proofs.TestLaws.{tests_tell}
 use Rattle.ts_spans.specs.Machines.{automata_for, automata_in}
 use Rattle.ts_spans.proofs.OfTerms.{term_whole}
+use Rattle.ts_search.specs.Inside.{AllShowInside}
 use Rattle.ts_search.specs.Leaps.{CutsInside, RefutesInside, ShowsInside}
 use Rattle.ts_search.specs.Posed.{HasObjective, IsPosed}
 use Rattle.ts_search.specs.Views.{contest_of, search_of}
@@ -105,6 +108,10 @@ Shows machines r = (a : Automata) → slice_get machines r.term ≡ Some a → S
 abbrev pub ShowUpTo : List Automata → List Require → ℕ → Type 0
 ShowUpTo machines rs n = (i : ℕ) (r : Require) → i < n → slice_get rs i ≡ Some r → Shows machines r
 
+-- where the first ones are all of them, each shows it
+pub all_show : (m : ModelParts) (n : ℕ) → length m.requirements ≤ n → ShowUpTo (automata_in m) m.requirements n → AllShowInside m
+all_show m n all shows i r a is has = let within = slice_get_within m.requirements i r is in shows i r (omega (arith, within, all)) is a has
+
 there : (machines : List Automata) (k : ℕ) → k < length machines → (a : Automata) × (slice_get machines k ≡ Some a)
 there [] k l = absurd (omega (arith, l))
 there (a ∷ machines) zero l = (a, refl)
@@ -145,3 +152,38 @@ machine_at q posed machines are term is m e =
     let same = length-map machines automata_of in
     ap (λ l. slice_get l term) (sym are) ∙ slice_get-map automata_of machines term
     ∙ ap (option_map automata_of) (slice_get-get_or machines term m (omega (arith, long, same)) ∙ ap Some (sym e))
+
+-- one requirement more is tried: it fails, or so many show it and one more
+
+module _ (q : Problem) (posed : IsPosed q) (machines : List Machine) (are : map automata_of machines ≡ automata_in (model_parts q.model.now))
+    (i : ℕ) (r : Require) (there : slice_get q.model.now.requirements.items i ≡ Some r) (m : Machine) (is : m ≡ get_or machines r.term m)
+    (told : Bool) (tells : IsTrue told ↔ ShowsInside (automata_of m).forward.mark r.op r.bound)
+  where
+    its_machine : slice_get (automata_in (model_parts q.model.now)) r.term ≡ Some (automata_of m)
+    its_machine =
+        machine_at q posed machines are r.term
+        (each_at (λ (z : Require). z.term < length (search_of q).model.terms) q.model.now.requirements.items i r posed.right.whole.requirements there) m is
+
+    pub one_fails : told ≡ false → IsTrue false ↔ AllShowInside (model_parts q.model.now)
+    one_fails e = (λ t. absurd (false≢true t), λ all. sym e ∙ tells.1 (all i r (automata_of m) there its_machine))
+
+    pub one_more_shows : told ≡ true → ShowUpTo (automata_in (model_parts q.model.now)) q.model.now.requirements.items i →
+        ShowUpTo (automata_in (model_parts q.model.now)) q.model.now.requirements.items (i + 1)
+    one_more_shows shown before k u below e = go (i - k) refl
+      where
+        shows : Shows (automata_in (model_parts q.model.now)) r
+        shows a there =
+            subst (λ z. ShowsInside z.forward.mark r.op r.bound) (same_Some (automata_of m) a (sym its_machine ∙ there))
+            (tells.0 shown)
+
+        go : (d : ℕ) → i - k ≡ d → Shows (automata_in (model_parts q.model.now)) u
+        go zero f =
+            let same : k ≡ i = omega (arith, below, f) in
+            subst (Shows (automata_in (model_parts q.model.now)))
+            (same_Some r u (sym there ∙ ap (slice_get q.model.now.requirements.items) (sym same) ∙ e)) shows
+        go (suc d) f = before k u (omega (arith, f)) e
+
+-- the mark as the code reads it
+pub as_read : (a : Automata) (b : Body) (mark : Mark) (r : Require) (told : Bool) → b ≡ a.forward → mark ≡ b.mark →
+    IsTrue told ↔ ShowsInside mark r.op r.bound → IsTrue told ↔ ShowsInside a.forward.mark r.op r.bound
+as_read a b mark r told is reads h = subst (λ z. IsTrue told ↔ ShowsInside z r.op r.bound) (reads ∙ ap (λ z. z.mark) is) h

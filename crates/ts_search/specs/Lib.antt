@@ -1,6 +1,7 @@
 pub mod Dive
 pub mod Drops
 pub mod Found
+pub mod Inside
 pub mod Laws
 pub mod Lean
 pub mod Leaps

@@ -1,10 +1,11 @@
 //! Whether what excludes a box excludes each box inside it too, by the marks of the machines.
 
-ghost use Rattle.std.specs.Prelude.{◌≡◌, IsTrue, Option, map};
+ghost use Rattle.std.specs.Prelude.{◌≡◌, ◌↔◌, IsTrue, Option, map};
 ghost use Rattle.ts_automaton.specs.declared.state.Mark.TheVariants.{Zero as ZeroMark};
 ghost use Rattle.ts_bound.specs.TermSpans.{automata_of};
 ghost use Rattle.ts_model.specs.Views.{model_parts};
 ghost use Rattle.ts_search.specs.Dive.{Find};
+ghost use Rattle.ts_search.specs.Inside.{AllShowInside, LeavesValues};
 ghost use Rattle.ts_search.specs.Leaps.{ExcludesInside, RefutesInside, ShowsInside};
 ghost use Rattle.ts_search.specs.LineOf.{TheBest};
 ghost use Rattle.ts_search.specs.Posed.{HasObjective, IsPosed};
@@ -24,7 +25,9 @@ pub(crate) fn excludes_inside(contest: &Contest<'_>, machines: &[Machine]) -> bo
     requires objective { HasObjective contest.now }
     requires posed { IsPosed contest.now.problem }
     requires machines { map automata_of machines.now ≡ automata_in (model_parts contest.now.problem.model.now) }
-    ensures { IsTrue result → (found : Option Find) → ExcludesInside (TheBest (contest_of contest.now) found) }
+    ensures inside { IsTrue result → (found : Option Find) → ExcludesInside (TheBest (contest_of contest.now) found) }
+    ensures all { IsTrue result ↔ (LeavesValues (model_parts contest.now.problem.model.now) contest.now.objective ×
+        AllShowInside (model_parts contest.now.problem.model.now)) }
 {
     match machines[contest.objective as usize].forward().mark() {
         Mark::Same => refutes_inside(&contest.problem, machines),
@@ -37,7 +40,8 @@ pub(crate) fn excludes_inside(contest: &Contest<'_>, machines: &[Machine]) -> bo
 pub(crate) fn refutes_inside(problem: &Problem<'_>, machines: &[Machine]) -> bool
     requires posed { IsPosed problem.now }
     requires machines { map automata_of machines.now ≡ automata_in (model_parts problem.now.model.now) }
-    ensures { IsTrue result → RefutesInside (search_of problem.now) }
+    ensures inside { IsTrue result → RefutesInside (search_of problem.now) }
+    ensures all { IsTrue result ↔ AllShowInside (model_parts problem.now.model.now) }
 {
     for i in 0..problem.model.requirements.len() {
         let r = &problem.model.requirements[i];
@@ -50,7 +54,7 @@ pub(crate) fn refutes_inside(problem: &Problem<'_>, machines: &[Machine]) -> boo
 
 /// Whether a span under this mark that refutes the requirement refutes it on each box inside.
 fn shows_inside(mark: Mark, r: &Require) -> bool
-    ensures { IsTrue result → ShowsInside mark r.now.op r.now.bound }
+    ensures { IsTrue result ↔ ShowsInside mark r.now.op r.now.bound }
 {
     match mark {
         Mark::Same => true,
@@ -61,7 +65,7 @@ fn shows_inside(mark: Mark, r: &Require) -> bool
 
 /// Whether the term is to be at most a number that isn't below 0.
 fn is_at_most_some(r: &Require) -> bool
-    ensures { IsTrue result → ShowsInside ZeroMark r.now.op r.now.bound }
+    ensures { IsTrue result ↔ ShowsInside ZeroMark r.now.op r.now.bound }
 {
     match (r.op, r.bound) {
         (Op::AtMost, Ext::Int(b)) => b >= 0,
