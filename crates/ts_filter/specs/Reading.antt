@@ -1,5 +1,5 @@
 -- The cells that a machine looks at, in the order in which one of its automata reads them.
-use Rattle.std.specs.Prelude.{reverse}
+use Rattle.std.specs.Prelude.{◌≡◌, ◌<◌, ◌-◌, ℕ, ℤ, List, [], get_or, reverse}
 use Rattle.ts_base.specs.Windows.{looked_at}
 use Rattle.ts_filter.specs.declared.reading.Reading.{Reading}
 use Rattle.ts_filter.specs.declared.reading.Way.{Way}
@@ -13,3 +13,7 @@ in_order FromLast b = reverse b
 
 abbrev pub cells_read : Reading → Box
 cells_read r = in_order r.way (looked_at r.window r.cells.now.present)
+
+-- the values of the cell before the one at place i, if there is one
+abbrev pub IsBefore : Box → ℕ → List ℤ → Type 0
+IsBefore cells i values = 0 < i → values ≡ get_or cells (i - 1) []

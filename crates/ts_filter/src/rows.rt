@@ -3,7 +3,7 @@
 ghost use Rattle.std.specs.Prelude.{◌≡◌, ◌<◌, ◌≤◌, [], IfOk, OnOk, get_or, length};
 ghost use Rattle.ts_bound.specs.HullTables.{forward_rows};
 ghost use Rattle.ts_filter.specs.KnownRows.{AreRows};
-ghost use Rattle.ts_filter.specs.Reading.{cells_read};
+ghost use Rattle.ts_filter.specs.Reading.{IsBefore, cells_read};
 ghost use Rattle.ts_filter.specs.RowStacks.{HasStates, hulls_in};
 
 use crate::reading::Reading;
@@ -26,36 +26,65 @@ pub(crate) fn make_rows(
     ensures known { AreRows a.now (cells_read reading.entry) rows.new }
     ensures enough { OnOk result (count ≤ length rows.new.known) }
 {
-    while rows.len() < count {
-        make_row(alloc, rows, a, reading)?;
+    if rows.len() < count {
+        let mut lists = rows.take_lists(alloc);
+        make_missing(alloc, rows, a, reading, count, &mut lists)?;
+        rows.keep_lists(lists);
     }
     Ok(())
 }
 
-/// Makes the row of the cell that is read next. If it comes out as it was, all above it are right too.
+/// Makes the missing rows of the `count` cells that the automaton reads first. The values of each cell are listed once.
+fn make_missing(
+    alloc: Global,
+    rows: &mut RowStack,
+    a: &Automaton,
+    reading: Reading<'_>,
+    count: usize,
+    lists: &mut TwoCells,
+) -> Result<(), Memory>
+    requires cells { count ≤ length (cells_read reading) }
+    requires known { AreRows a.now (cells_read reading) rows.old }
+    requires more { length rows.old.known < count }
+    ensures known { AreRows a.now (cells_read reading.entry) rows.new }
+    ensures enough { OnOk result (count ≤ length rows.new.known) }
+{
+    lists.begin(reading, rows.len())?;
+    while rows.len() < count {
+        make_row(alloc, rows, a, reading, lists)?;
+    }
+    Ok(())
+}
+
+/// Makes the row of the cell that is read next. If it comes out as it was, all above it are right too. Before and after
+/// it `lists` has the values of the cell before the next one.
 fn make_row(
     alloc: Global,
     rows: &mut RowStack,
     a: &Automaton,
     reading: Reading<'_>,
+    lists: &mut TwoCells,
 ) -> Result<(), Memory>
     requires more { length rows.old.known < length (cells_read reading) }
     requires known { AreRows a.now (cells_read reading) rows.old }
+    requires before { IsBefore (cells_read reading) (length rows.old.known) lists.old.before }
     ensures known { AreRows a.now (cells_read reading.entry) rows.new }
     ensures more { OnOk result (length rows.old.known < length rows.new.known) }
+    ensures before { OnOk result (IsBefore (cells_read reading.entry) (length rows.new.known) lists.new.before) }
 {
     let spare = rows.take_spare(alloc);
-    let mut lists = rows.take_lists(alloc);
-    let row = next_row(alloc, rows, a, reading, &mut lists, spare)?;
-    rows.keep_lists(lists);
+    let row = next_row(alloc, rows, a, reading, lists, spare)?;
     if rows.stands(&row) {
         rows.know_all(row);
-        return Ok(());
+        return lists.begin(reading, rows.len());
     }
-    rows.push(row)
+    rows.push(row)?;
+    lists.go_on();
+    Ok(())
 }
 
-/// The row of the cell that is read after those of these rows, in the memory of `lists` and `spare`.
+/// The row of the cell that is read after those of these rows, in the memory of `lists` and `spare`. `lists` has the
+/// values of the cell before it, and then its own values too.
 fn next_row(
     alloc: Global,
     rows: &RowStack,
@@ -66,6 +95,8 @@ fn next_row(
 ) -> Result<HullRow, Memory>
     requires more { length rows.now.known < length (cells_read reading) }
     requires known { AreRows a.now (cells_read reading) rows.now }
+    requires before { IsBefore (cells_read reading) (length rows.now.known) lists.old.before }
+    ensures here { IfOk result (λ row. lists.new.here ≡ get_or (cells_read reading.entry) (length rows.now.known) []) }
     ensures states { IfOk result (λ row. HasStates rows.now.planned row.packed) }
     ensures hulls { IfOk result (λ row. hulls_in rows.now.planned.states row.packed
         ≡ get_or (forward_rows a.now (cells_read reading.entry)) (length rows.now.known) []) }
@@ -78,7 +109,6 @@ fn next_row(
         let first = spare.started(alloc, a, lists.here.lend())?;
         return Ok(first);
     }
-    lists.before.reset(reading.at(i - 1))?;
     let row = spare.stepped(
         alloc,
         a,

@@ -1,28 +1,22 @@
-use Rattle.std.proofs.Common.{◌≡◌, ◌<◌, ◌∙◌, length, [], get_or, sym, subst}
+use Rattle.std.proofs.Common.{◌≡◌, ◌<◌, length, [], get_or, sym, subst}
 use Rattle.ts_bound.specs.HullTables.{forward_rows}
 use Rattle.ts_filter.specs.KnownRows.{AreRows}
 use Rattle.ts_filter.specs.Reading.{cells_read}
-use Rattle.ts_filter.specs.RowStacks.{Stack, IsOneMore, hulls_in}
-use Rattle.ts_filter.proofs.LaidRows.{all_rows_stand, one_more_row, either_way}
+use Rattle.ts_filter.specs.RowStacks.{Stack, hulls_in}
+use Rattle.ts_filter.proofs.LaidRows.{all_rows_stand, one_more_row}
 use Rattle.ts_filter.proofs.rows.make_row.Goals as goal
 
 pub returns-then-stands-clause-known : goal.returns-then-stands-clause-known
 returns-then-stands-clause-known c =
-    let a = c.args.a.now in let cells = cells_read c.args.reading in let old = c.keep_lists.new.self in let row = c.in_ok-row.row.packed in
-    let same = c.keep_lists.ensures ∙ c.take_lists-lists.ensures ∙ c.take_spare-spare.ensures in
-    all_rows_stand a cells old c.know_all.new.self (hulls_in old.planned.states row) (subst (AreRows a cells) (sym same) c.requires.known)
-    (c.stands.ensures c.if-stands.true)
-    (subst (λ (s : Stack). hulls_in s.planned.states row ≡ get_or (forward_rows a cells) (length s.known) []) (sym c.keep_lists.ensures)
-    c.in_ok-row.ensures.hulls)
+    let a = c.args.a.now in let cells = cells_read c.args.reading in let old = c.take_spare-spare.new.self in let row = c.in_ok-row.row.packed in
+    all_rows_stand a cells old c.know_all.new.self (hulls_in old.planned.states row)
+    (subst (AreRows a cells) (sym c.take_spare-spare.ensures) c.requires.known) (c.stands.ensures c.if-stands.true) c.in_ok-row.ensures.hulls
     c.know_all.ensures.planned c.know_all.ensures.known c.know_all.ensures.laid
 
 pub returns-clause-known : goal.returns-clause-known
 returns-clause-known c =
-    let a = c.args.a.now in let cells = cells_read c.args.reading in let old = c.keep_lists.new.self in let row = c.in_ok-row.row.packed in
-    let same = c.keep_lists.ensures ∙ c.take_lists-lists.ensures ∙ c.take_spare-spare.ensures in
+    let a = c.args.a.now in let cells = cells_read c.args.reading in let old = c.take_spare-spare.new.self in let row = c.in_ok-row.row.packed in
+    let same = c.take_spare-spare.ensures in
     let known = subst (AreRows a cells) (sym same) c.requires.known in
     let more : length old.known < length cells = subst (λ (s : Stack). length s.known < length cells) (sym same) c.requires.more in
-    let is = subst (λ (s : Stack). hulls_in s.planned.states row ≡ get_or (forward_rows a cells) (length s.known) []) (sym c.keep_lists.ensures)
-    c.in_ok-row.ensures.hulls in
-    either_way c.push.result (IsOneMore (hulls_in old.planned.states row) old c.push.new.self) (c.push.new.self ≡ old) _ c.push.ensures.ok c.push.ensures.err
-    (λ m. one_more_row a cells old c.push.new.self (hulls_in old.planned.states row) known more is m) (λ e. subst (AreRows a cells) (sym e) known)
+    one_more_row a cells old c.push.new.self (hulls_in old.planned.states row) known more c.in_ok-row.ensures.hulls c.in_ok-push.ensures.ok

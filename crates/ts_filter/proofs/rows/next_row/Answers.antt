@@ -28,9 +28,10 @@ stepped-requires c =
     let a = c.args.a.now in let cells = cells_read c.args.reading in let rows = c.args.rows.now in
     let i = c.len-i.result - 1 in let count = c.len-i.ensures in
     let at : suc i ≡ length rows.known = omega (arith, c.if-i-eq0.false, count) in
+    let here = c.requires.before (omega (arith, at)) ∙ ap (λ j. get_or cells (j - 1) []) (sym count) in
     let before = packed_before a cells rows.known rows.planned i c.lend-2.result.values.now c.row.result.now c.requires.known.planned
     c.requires.known.known at c.requires.more c.row.ensures.states c.row.ensures.hulls
-    (c.lend-2.ensures ∙ c.in_ok-reset-2.ensures.values ∙ c.at.ensures) in
+    (c.lend-2.ensures ∙ here) in
     record {
       width = sym c.wide.ensures ∙ c.with_room-spare.ensures;
       width_before = before.width;
@@ -43,8 +44,9 @@ returns-clause-states c =
     let a = c.args.a.now in let cells = cells_read c.args.reading in let rows = c.args.rows.now in
     let i = c.len-i.result - 1 in let count = c.len-i.ensures in
     let at : suc i ≡ length rows.known = omega (arith, c.if-i-eq0.false, count) in
+    let here = c.requires.before (omega (arith, at)) ∙ ap (λ j. get_or cells (j - 1) []) (sym count) in
     (next_made a cells rows.known rows.planned i c.lend-2.result.values.now c.row.result.now c.requires.known.planned c.requires.known.known at
-    c.requires.more c.row.ensures.states c.row.ensures.hulls (c.lend-2.ensures ∙ c.in_ok-reset-2.ensures.values ∙ c.at.ensures)
+    c.requires.more c.row.ensures.states c.row.ensures.hulls (c.lend-2.ensures ∙ here)
     c.lend-3.result.values.now c.in_ok-row.row.packed
     (c.lend-3.ensures ∙ c.in_ok-reset.ensures.values ∙ c.at-values.ensures ∙ ap (λ j. get_or cells j []) count) c.in_ok-row.ensures).0
 
@@ -53,7 +55,8 @@ returns-clause-hulls c =
     let a = c.args.a.now in let cells = cells_read c.args.reading in let rows = c.args.rows.now in
     let i = c.len-i.result - 1 in let count = c.len-i.ensures in
     let at : suc i ≡ length rows.known = omega (arith, c.if-i-eq0.false, count) in
+    let here = c.requires.before (omega (arith, at)) ∙ ap (λ j. get_or cells (j - 1) []) (sym count) in
     (next_made a cells rows.known rows.planned i c.lend-2.result.values.now c.row.result.now c.requires.known.planned c.requires.known.known at
-    c.requires.more c.row.ensures.states c.row.ensures.hulls (c.lend-2.ensures ∙ c.in_ok-reset-2.ensures.values ∙ c.at.ensures)
+    c.requires.more c.row.ensures.states c.row.ensures.hulls (c.lend-2.ensures ∙ here)
     c.lend-3.result.values.now c.in_ok-row.row.packed
     (c.lend-3.ensures ∙ c.in_ok-reset.ensures.values ∙ c.at-values.ensures ∙ ap (λ j. get_or cells j []) count) c.in_ok-row.ensures).1
