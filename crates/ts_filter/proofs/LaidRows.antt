@@ -314,8 +314,8 @@ module _ (c : Change) (b later : Box) (d : IsChange c b later) where
       IsLeft (c.count - c.last) (c.count - c.first) c.gone_last old new → AreBehind p later new.known × GoOnBehind p later new.laid
   behind_left None old new plan h g f = (tt, tt)
   behind_left (Some p) old new plan h g f =
-      let some = d.some in
-      let turned = λ (cells : Box) (e : length cells ≡ c.count). turned_cell c.count c.last cells e (omega (arith, some)) d.within in
+      let some = c.some in
+      let turned = λ (cells : Box) (e : length cells ≡ c.count). turned_cell c.count c.last cells e (omega (arith, some)) c.within in
       let rows = left_stays p.reverse (reverse b) (reverse later) (c.count - c.last) (c.count - c.first) old plan h g
       (length-reverse later ∙ long_later ∙ sym (length-reverse b))
       (turned_front c.count c.last b later d.differ.count d.differ.count_later d.differ.behind)

@@ -10,13 +10,14 @@ pub mod TestLaws
 pub mod RangeLaws
 pub mod MachineLaws
 mod Looked
-mod MeetingLaws
 mod TermsAsked
 pub mod CallLaws
 mod AnswerLaws
 mod Refuting
 mod Removals
 mod WithoutValues
+mod MeetingLaws
+mod OthersLaws
 mod PackedStacks
 mod DropLaws
 mod EarlyCells

@@ -1,33 +1,76 @@
--- Cells that were seen against those that are looked at, from both ends, and tables that become those of the latter.
-use Rattle.std.proofs.Common.{◌≡◌, ℕ, ◌+◌, ◌-◌, ◌≤◌, ◌++◌, length, take, drop, sym, ap, ◌∙◌, subst, arith}
-use Rattle.std.proofs.lemmas.List.{take-append-drop, drop-drop}
+-- The tables of all terms, one after the other: what a change of the box leaves of each.
+use Rattle.std.proofs.Common.{◌≡◌, ℕ, ◌+◌, ◌<◌, ◌≤◌, List, [], ◌∷◌, length, set, get_or, sym, ap, ◌∙◌, subst, arith}
+use Rattle.std.specs.List.{All, AllByRecursion, AllWithin}
+use Rattle.std.proofs.Math.Seq.{map-set_same}
+use Rattle.std.proofs.lemmas.List.{get_or-set_other, length-map}
+use Rattle.std.proofs.lemmas.List.Elements.{All-from_recursion, AllWithin-more_set}
+use Rattle.ts_bound.specs.TermSpans.{Automata, LooksIn}
+use Rattle.ts_filter.specs.declared.gone.Other.{Other}
 use Rattle.ts_filter.specs.Boxes.{Box}
-use Rattle.ts_filter.specs.declared.gone.Change.{Change}
-use Rattle.ts_filter.specs.KnownRows.{KnownRows, AreRowsOf, IsChange, StayKnown}
+use Rattle.ts_filter.specs.KnownRows.{KnownRows, AreKnown, AreRowsOf}
+use Rattle.ts_filter.specs.Others.{AreOthers, StayKnownOn}
+use Rattle.ts_filter.specs.Tables.{AreRowsOfEach, machines_of}
 
--- lists from their ends
+abbrev machine_of : KnownRows → Automata
+machine_of t = t.machine
 
-pub whole_same : (xs ys : Box) (k : ℕ) → take k xs ≡ take k ys → drop k xs ≡ drop k ys → xs ≡ ys
-whole_same xs ys k p q =
-    sym (take-append-drop k xs) ∙ ap (λ l. l ++ drop k xs) p ∙ ap (λ r. take k ys ++ r) q ∙ take-append-drop k ys
+same_machines : (each each' : List KnownRows) (term : ℕ) (x y : KnownRows) → x ≡ get_or each term x → y.machine ≡ x.machine → each' ≡ set each term y →
+    machines_of each' ≡ machines_of each
+same_machines each each' term x y is machine now = ap machines_of now ∙ map-set_same machine_of each term y x (machine ∙ ap machine_of is)
 
-rest_same : (xs ys : Box) (k n : ℕ) → n ≤ k → drop n xs ≡ drop n ys → drop k xs ≡ drop k ys
-rest_same xs ys k n le e =
-    let sum : n + (k - n) ≡ k = omega (arith, le) in
-    ap (λ m. drop m xs) (sym sum) ∙ sym (drop-drop (k - n) n xs) ∙ ap (drop (k - n)) e ∙ drop-drop (k - n) n ys ∙ ap (λ m. drop m ys) sum
+-- of all terms, those before `term` have forgotten all
 
--- what was seen, while the places up to `last` are taken over: the first `at` cells are those that are looked at, and
--- those from `last` on were so before
-pub record TakenOver (last : ℕ) (seen cells : Box) (at : ℕ) : Type 0 where
-  pub count : length seen ≡ length cells
-  pub front : take at cells ≡ take at seen
-  pub behind : drop last cells ≡ drop last seen
+pub record AreForgotten (old each : List KnownRows) (term : ℕ) : Type 0 where
+  pub machines : machines_of each ≡ machines_of old
+  pub known : (b : Box) → AllWithin (AreKnown b) each 0 term
 
-pub all_taken : (last : ℕ) (seen cells : Box) (at : ℕ) → TakenOver last seen cells at → last ≤ at → seen ≡ cells
-all_taken last seen cells at t end = sym (whole_same cells seen at t.front (rest_same cells seen at last end t.behind))
+pub one_forgotten : (old each each' : List KnownRows) (term : ℕ) (x y : KnownRows) → AreForgotten old each term → term < length each → x ≡ get_or each term x →
+    y.machine ≡ x.machine → ((b : Box) → AreRowsOf b y) → each' ≡ set each term y → AreForgotten old each' (term + 1)
+one_forgotten old each each' term x y h lt is machine known now = record {
+  machines = same_machines each each' term x y is machine now ∙ h.machines;
+  known = λ b. subst (λ l. AllWithin (AreKnown b) l 0 (term + 1)) (sym now) (AllWithin-more_set each term y lt (AreKnown b) (h.known b) (known _));
+}
 
--- tables of what is seen
+-- those before `term` follow the others
 
-pub known_taken : (c : Change) (old seen cells : Box) (before after : KnownRows) → StayKnown c before after → IsChange c old cells → seen ≡ cells →
-    AreRowsOf old before → AreRowsOf seen after
-known_taken c old seen cells before after stay d same h = subst (λ z. AreRowsOf z after) (sym same) (stay old cells d h)
+pub record HaveMet (others : List Other) (n : ℕ) (old each : List KnownRows) (term : ℕ) : Type 0 where
+  pub machines : machines_of each ≡ machines_of old
+  pub rest : (k : ℕ) (d : KnownRows) → term ≤ k → get_or each k d ≡ get_or old k d
+  pub met : (cells later : Box) → length cells ≡ n → AreOthers others cells later → AreRowsOfEach cells old → AllWithin (AreKnown later) each 0 term
+
+pub as_many : (old each : List KnownRows) → machines_of each ≡ machines_of old → length each ≡ length old
+as_many old each h = sym (length-map each machine_of) ∙ ap length h ∙ length-map old machine_of
+
+module _ (others : List Other) (n : ℕ) (old each : List KnownRows) (term : ℕ) (x : KnownRows) (h : HaveMet others n old each term) (lt : term < length each)
+    (is : x ≡ get_or each term x) where
+  -- the next one is as it was
+
+  as_it_was : get_or old term x ≡ x
+  as_it_was = sym (h.rest term x (omega arith)) ∙ sym is
+
+  there : term < length old
+  there = subst (λ m. term < m) (as_many old each h.machines) lt
+
+  pub one_met : (each' : List KnownRows) (y : KnownRows) → y.machine ≡ x.machine → StayKnownOn others n x y → each' ≡ set each term y →
+      HaveMet others n old each' (term + 1)
+  one_met each' y machine stay now = record {
+    machines = same_machines each each' term x y is machine now ∙ h.machines;
+    rest = λ k d le. ap (λ l. get_or l k d) now ∙ get_or-set_other each term k y d (λ e. omega (arith, le, e)) ∙ h.rest k d (omega (arith, le));
+    met = λ cells later count o known.
+        subst (λ l. AllWithin (AreKnown later) l 0 (term + 1)) (sym now)
+        (AllWithin-more_set each term y lt (AreKnown later) (h.met cells later count o known)
+        (stay cells later count o (subst (AreKnown cells) as_it_was (known term x there))));
+  }
+
+pub all_met : (others : List Other) (n : ℕ) (old each : List KnownRows) (term : ℕ) → HaveMet others n old each term → length old ≤ term →
+    (cells later : Box) → length cells ≡ n → AreOthers others cells later → AreRowsOfEach cells old → AreRowsOfEach later each
+all_met others n old each term h end cells later count o known = λ k d lt.
+    let long = as_many old each h.machines in h.met cells later count o known k d (omega arith) (omega (arith, lt, long, end))
+
+-- the machines look inside the box
+pub looks_each : (b : Box) (each : List KnownRows) → AllByRecursion (λ a. LooksIn a b) (machines_of each) → All (λ t. LooksIn t.machine b) each
+looks_each b each h = All-from_recursion (λ t. LooksIn t.machine b) each (by_term each h)
+  where
+    by_term : (ts : List KnownRows) → AllByRecursion (λ a. LooksIn a b) (machines_of ts) → AllByRecursion (λ t. LooksIn t.machine b) ts
+    by_term [] h = tt
+    by_term (t ∷ ts) h = (h.0, by_term ts h.1)

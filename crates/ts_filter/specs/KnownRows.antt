@@ -101,8 +101,6 @@ pub record DifferFrom (first last n : ℕ) (cells later : Box) : Type 0 where
 
 -- the cells change so
 pub record IsChange (c : Change) (cells later : Box) : Type 0 where
-  pub some : c.first < c.last
-  pub within : c.last ≤ c.count
   pub differ : DifferFrom c.first c.last c.count cells later
   pub gone_first : AreLost c.gone_first (get_or cells c.first []) (get_or later c.first [])
   pub gone_last : AreLost c.gone_last (get_or cells (c.last - 1) []) (get_or later (c.last - 1) [])

@@ -16,6 +16,7 @@ pub mod Laws
 pub mod Lines
 pub mod MachineSpans
 pub mod OfTerm
+pub mod Others
 pub mod PartLaws
 pub mod Question
 pub mod Reading
@@ -25,6 +26,7 @@ pub mod RowStacks
 pub mod Rules
 pub mod SoFar
 pub mod Steps
+pub mod Tables
 pub mod TermDrops
 pub mod Tests
 pub mod Tree

@@ -1,25 +1,27 @@
 //! Tables that follow a box, of the machines of all terms of a model.
 
-ghost use Rattle.std.specs.Prelude.{◌≡◌, ◌↔◌, ◌<◌, ◌≤◌, Contains, IfOk, IsTrue, None, length, map, option_map};
+ghost use Rattle.std.specs.Prelude.{◌≡◌, ◌↔◌, ◌<◌, ◌≤◌, Contains, IfOk, IsTrue, OnOk, None, length, map};
 ghost use Rattle.std.specs.List.{AllByRecursion};
-ghost use Rattle.ts_bound.specs.TermSpans.{Automata, LooksIn, automata_of, term_span};
+ghost use Rattle.ts_bound.specs.TermSpans.{LooksIn, automata_of, term_span};
 ghost use Rattle.ts_domain.specs.BoxSeries.{IsCell, cell_of};
-ghost use Rattle.ts_filter.specs.Boxes.{only};
-ghost use Rattle.ts_filter.specs.Drops.{IsFirstDrop, IsFirstOf};
+ghost use Rattle.ts_filter.specs.Boxes.{Box, only};
+ghost use Rattle.ts_filter.specs.Drops.{IsFirstDrop};
 ghost use Rattle.ts_filter.specs.Excluded.{Cuts, Refutes};
 ghost use Rattle.ts_filter.specs.FirstCell.{IsFirstCell};
-ghost use Rattle.ts_filter.specs.KeptCells.{AreKept, IsKeptIfKnown};
+ghost use Rattle.ts_filter.specs.KeptCells.{AreKept};
 ghost use Rattle.ts_filter.specs.KeptValue.{IsKept};
 ghost use Rattle.ts_filter.specs.MachineSpans.{spans_of};
 ghost use Rattle.ts_filter.specs.OfTerm.{OfTerm};
-ghost use Rattle.ts_filter.specs.TermDrops.{IsDropUpTo};
+ghost use Rattle.ts_filter.specs.Tables.{AreRowsOfEach, machines_of};
 ghost use Rattle.ts_filter.specs.declared.bar.Bar.TheVariants.{Better};
 
 use crate::bar::Bar;
+use crate::box_tables::BoxTables;
 use crate::drops::{Removal, earlier, last_asked};
 use crate::held_machine::HeldMachine;
-use crate::kept_cells::{KeptCells, KeptTerm};
-use crate::live_tables::LiveTables;
+use crate::kept_cells::KeptCells;
+use crate::meeting::meet;
+use crate::others::Others;
 use crate::question::Question;
 use crate::room::has_room;
 use std::alloc::Global;
@@ -29,26 +31,30 @@ use ts_domain::{Boxed, Domain};
 use ts_glue::Machine;
 use ts_model::Require;
 
-/// The machines of the terms, in their order, each with the rows of hulls of the box that it was asked about last. If
-/// the rows of all might take too much memory, none are kept after a question. Contracts see the machines alone. The
-/// window of each machine that a question is put to has to end at a cell of the box.
+/// The machines of the terms, in their order, each with the rows of hulls that are known of one box, and that box. Each
+/// box has to be brought before it is asked about: then the rows that depend on a cell that differs are forgotten.
+/// Callers need not report what changed. If the rows of all might take too much memory, none are kept after a question.
+/// The window of each machine that a question is put to has to end at a cell of the box.
 #[derive(Drop)]
 pub struct AllTables<'a> {
-    each: Vec<LiveTables<'a>>,
-    keeps: bool,
+    pub(crate) each: Vec<BoxTables<'a>>,
+    pub(crate) keeps: bool,
+    seen: Vec<Domain>,
+    others: Others,
 }
 
 impl<'a> Model for AllTables<'a> {
     ghost use Rattle.std.specs.Coded.{codes};
-    ghost use Rattle.std.specs.Prelude.{List};
     ghost use Rattle.ts_automaton.specs.Codes.{formula_code};
-    ghost use Rattle.ts_bound.specs.TermSpans.{Automata};
+    ghost use Rattle.ts_filter.specs.Tables.{AreRowsOfEach, Tables, machines_of};
 
-    ghost Value = { List Automata };
+    ghost Value = { Tables };
 
     ghost coded = { Prim.hlevel (codes, formula_code) };
 
-    ghost view = { λ t. t.each.items };
+    ghost view = { λ t. record { machines = machines_of t.each.items; cells = t.seen.items } };
+
+    ghost invariant = { λ t. AreRowsOfEach t.seen.items t.each.items };
 }
 
 impl<'a> AllTables<'a> {
@@ -59,14 +65,14 @@ impl<'a> AllTables<'a> {
         machines: &'a [Machine],
         cells: &[Domain],
     ) -> Result<AllTables<'a>, Memory>
-        ensures { IfOk result (λ t. t ≡ map automata_of machines.now) }
+        ensures { IfOk result (λ t. t.machines ≡ map automata_of machines.now) }
     {
         let mut each = Vec::new(alloc);
         for machine in machines {
-            each.push(LiveTables::new(alloc, HeldMachine::Lent(machine)))?;
+            each.push(BoxTables::new(alloc, HeldMachine::Lent(machine)))?;
         }
         let keeps = has_room(machines, cells);
-        Ok(AllTables { each, keeps })
+        Ok(AllTables::of(alloc, each, keeps))
     }
 
     /// The tables of these machines, which they own, of which nothing is known yet. The boxes that will be asked about
@@ -76,20 +82,37 @@ impl<'a> AllTables<'a> {
         machines: Vec<Machine>,
         cells: &[Domain],
     ) -> Result<AllTables<'a>, Memory>
-        ensures { IfOk result (λ t. t ≡ map automata_of machines.items) }
+        ensures { IfOk result (λ t. t.machines ≡ map automata_of machines.items) }
     {
         let keeps = has_room(&machines, cells);
         let mut each = Vec::new(alloc);
         for machine in machines {
-            each.push(LiveTables::new(alloc, HeldMachine::Own(machine)))?;
+            each.push(BoxTables::new(alloc, HeldMachine::Own(machine)))?;
         }
-        Ok(AllTables { each, keeps })
+        Ok(AllTables::of(alloc, each, keeps))
+    }
+
+    /// Makes the tables those of this box, and so forgets the rows that depend on a cell that differs; of a cell that
+    /// only lost values these are cut out. Each cell is compared once, whatever number of terms look at it. After
+    /// `Memory` they are of some box.
+    pub fn bring(&mut self, alloc: Global, cells: &Boxed) -> Result<(), Memory>
+        requires looks { AllByRecursion (λ a. LooksIn a cells.now.present) self.old.machines }
+        ensures machines { self.new.machines ≡ self.old.machines }
+        ensures on { OnOk result (self.new.cells ≡ cells.now.present) }
+    {
+        meet(
+            alloc,
+            &mut self.each,
+            &mut self.seen,
+            &mut self.others,
+            cells,
+        )
     }
 
     /// Whether the machine of the term can't be split.
     pub fn is_plain(&self, term: u32) -> bool
-        requires { term < length self.now }
-        ensures { OfTerm self.now term (λ a. IsTrue result ↔ (a.pair ≡ None)) }
+        requires { term < length self.now.machines }
+        ensures { OfTerm self.now.machines term (λ a. IsTrue result ↔ (a.pair ≡ None)) }
     {
         self.each[term as usize].is_plain()
     }
@@ -103,18 +126,17 @@ impl<'a> AllTables<'a> {
         p: u32,
         cells: &Boxed,
     ) -> Result<bool, Memory>
-        requires there { r.now.term < length self.old }
+        requires there { r.now.term < length self.old.machines }
         requires cell { IsCell p cells.now }
-        requires usable { OfTerm self.old r.now.term (λ a. a.pair ≡ None → p ≡ length cells.now.present) }
-        requires looks { OfTerm self.old r.now.term (λ a. LooksIn a cells.now.present) }
+        requires usable { OfTerm self.old.machines r.now.term (λ a. a.pair ≡ None → p ≡ length cells.now.present) }
+        requires looks { OfTerm self.old.machines r.now.term (λ a. LooksIn a cells.now.present) }
+        requires on { self.old.cells ≡ cells.now.present }
         ensures same { self.new ≡ self.old }
-        ensures told { IfOk result (λ told. OfTerm self.old r.now.term (λ a. IsTrue told
+        ensures told { IfOk result (λ told. OfTerm self.old.machines r.now.term (λ a. IsTrue told
             ↔ Refutes r.now.op r.now.bound (term_span a p cells.now.present))) }
     {
         let asked = Question::Compares(r.op, r.bound);
-        let told = self.each[r.term as usize].excluded_at(alloc, asked, p, cells);
-        self.after_question(r.term);
-        told
+        self.excluded_at(alloc, r.term, asked, p, cells)
     }
 
     /// Whether `term`, the objective, isn't better than `bar` at cell `p`, by the span of its machine there. For a
@@ -128,18 +150,17 @@ impl<'a> AllTables<'a> {
         cells: &Boxed,
         bar: Ext,
     ) -> Result<bool, Memory>
-        requires there { term < length self.old }
+        requires there { term < length self.old.machines }
         requires cell { IsCell p cells.now }
-        requires usable { OfTerm self.old term (λ a. a.pair ≡ None → p ≡ length cells.now.present) }
-        requires looks { OfTerm self.old term (λ a. LooksIn a cells.now.present) }
+        requires usable { OfTerm self.old.machines term (λ a. a.pair ≡ None → p ≡ length cells.now.present) }
+        requires looks { OfTerm self.old.machines term (λ a. LooksIn a cells.now.present) }
+        requires on { self.old.cells ≡ cells.now.present }
         ensures same { self.new ≡ self.old }
-        ensures told { IfOk result (λ told. OfTerm self.old term (λ a. IsTrue told
+        ensures told { IfOk result (λ told. OfTerm self.old.machines term (λ a. IsTrue told
             ↔ Cuts goal (Better bar) (term_span a p cells.now.present))) }
     {
         let asked = Question::Counts(goal, Bar::Better(bar));
-        let told = self.each[term as usize].excluded_at(alloc, asked, p, cells);
-        self.after_question(term);
-        told
+        self.excluded_at(alloc, term, asked, p, cells)
     }
 
     /// Whether the requirement is refuted at cell `k` on the box with the value `v` alone there. For a machine that
@@ -152,19 +173,18 @@ impl<'a> AllTables<'a> {
         v: i64,
         cells: &Boxed,
     ) -> Result<bool, Memory>
-        requires there { r.now.term < length self.old }
+        requires there { r.now.term < length self.old.machines }
         requires cell { IsCell k cells.now }
-        requires usable { OfTerm self.old r.now.term (λ a. a.pair ≡ None → k ≡ length cells.now.present) }
-        requires looks { OfTerm self.old r.now.term (λ a. LooksIn a cells.now.present) }
+        requires usable { OfTerm self.old.machines r.now.term (λ a. a.pair ≡ None → k ≡ length cells.now.present) }
+        requires looks { OfTerm self.old.machines r.now.term (λ a. LooksIn a cells.now.present) }
         requires value { Contains (cell_of k cells.now) v }
+        requires on { self.old.cells ≡ cells.now.present }
         ensures same { self.new ≡ self.old }
-        ensures told { IfOk result (λ told. OfTerm self.old r.now.term (λ a. IsTrue told
+        ensures told { IfOk result (λ told. OfTerm self.old.machines r.now.term (λ a. IsTrue told
             ↔ Refutes r.now.op r.now.bound (term_span a k (only k v cells.now.present)))) }
     {
         let asked = Question::Compares(r.op, r.bound);
-        let told = self.each[r.term as usize].value_excluded_at(alloc, asked, k, v, cells);
-        self.after_question(r.term);
-        told
+        self.value_excluded_at(alloc, r.term, asked, k, v, cells)
     }
 
     /// The least cell below the last at which the requirement is refuted. None exactly where there is no such cell.
@@ -174,16 +194,15 @@ impl<'a> AllTables<'a> {
         r: &Require,
         cells: &Boxed,
     ) -> Result<Option<u32>, Memory>
-        requires there { r.now.term < length self.old }
-        requires looks { OfTerm self.old r.now.term (λ a. LooksIn a cells.now.present) }
+        requires there { r.now.term < length self.old.machines }
+        requires looks { OfTerm self.old.machines r.now.term (λ a. LooksIn a cells.now.present) }
+        requires on { self.old.cells ≡ cells.now.present }
         ensures same { self.new ≡ self.old }
-        ensures found { IfOk result (λ found. OfTerm self.old r.now.term
+        ensures found { IfOk result (λ found. OfTerm self.old.machines r.now.term
             (λ a. IsFirstCell a (Refutes r.now.op r.now.bound) cells.now.present found)) }
     {
         let asked = Question::Compares(r.op, r.bound);
-        let found = self.each[r.term as usize].first_excluded(alloc, asked, cells);
-        self.after_question(r.term);
-        found
+        self.first_excluded(alloc, r.term, asked, cells)
     }
 
     /// Whether no number of the span of `term`, the objective, counts for the bar at the last cell.
@@ -195,18 +214,17 @@ impl<'a> AllTables<'a> {
         cells: &Boxed,
         bar: Bar,
     ) -> Result<bool, Memory>
-        requires there { term < length self.old }
+        requires there { term < length self.old.machines }
         requires some { 1 ≤ length cells.now.present }
-        requires looks { OfTerm self.old term (λ a. LooksIn a cells.now.present) }
+        requires looks { OfTerm self.old.machines term (λ a. LooksIn a cells.now.present) }
+        requires on { self.old.cells ≡ cells.now.present }
         ensures same { self.new ≡ self.old }
-        ensures told { IfOk result (λ told. OfTerm self.old term (λ a. IsTrue told
+        ensures told { IfOk result (λ told. OfTerm self.old.machines term (λ a. IsTrue told
             ↔ Cuts goal bar (term_span a (length cells.now.present) cells.now.present))) }
     {
         let n = cells.cells();
         let asked = Question::Counts(goal, bar);
-        let told = self.each[term as usize].excluded_at(alloc, asked, n, cells);
-        self.after_question(term);
-        told
+        self.excluded_at(alloc, term, asked, n, cells)
     }
 
     /// The least cell below the last at which no number of the span of `term`, the objective, counts for the bar. None
@@ -219,16 +237,15 @@ impl<'a> AllTables<'a> {
         cells: &Boxed,
         bar: Bar,
     ) -> Result<Option<u32>, Memory>
-        requires there { term < length self.old }
-        requires looks { OfTerm self.old term (λ a. LooksIn a cells.now.present) }
+        requires there { term < length self.old.machines }
+        requires looks { OfTerm self.old.machines term (λ a. LooksIn a cells.now.present) }
+        requires on { self.old.cells ≡ cells.now.present }
         ensures same { self.new ≡ self.old }
         ensures found { IfOk result
-            (λ found. OfTerm self.old term (λ a. IsFirstCell a (Cuts goal bar) cells.now.present found)) }
+            (λ found. OfTerm self.old.machines term (λ a. IsFirstCell a (Cuts goal bar) cells.now.present found)) }
     {
         let asked = Question::Counts(goal, bar);
-        let found = self.each[term as usize].first_excluded(alloc, asked, cells);
-        self.after_question(term);
-        found
+        self.first_excluded(alloc, term, asked, cells)
     }
 
     /// The value of cell `k` that leaves `term`, the objective, the best number open.
@@ -240,14 +257,17 @@ impl<'a> AllTables<'a> {
         k: u32,
         cells: &Boxed,
     ) -> Result<i64, Memory>
-        requires there { term < length self.old }
+        requires there { term < length self.old.machines }
         requires cell { IsCell k cells.now }
-        requires looks { OfTerm self.old term (λ a. LooksIn a cells.now.present) }
+        requires looks { OfTerm self.old.machines term (λ a. LooksIn a cells.now.present) }
+        requires on { self.old.cells ≡ cells.now.present }
         ensures same { self.new ≡ self.old }
-        ensures kept { IfOk result (λ v. OfTerm self.old term (λ a. IsKept a goal k cells.now.present v)) }
+        ensures kept { IfOk result (λ v. OfTerm self.old.machines term (λ a. IsKept a goal k cells.now.present v)) }
     {
-        let kept = self.each[term as usize].kept_value(alloc, goal, k, cells);
-        self.after_question(term);
+        let keeps = self.keeps;
+        let tables = &mut self.each[term as usize];
+        let kept = tables.kept_value(alloc, goal, k, cells);
+        tables.leave(keeps);
         kept
     }
 
@@ -260,14 +280,15 @@ impl<'a> AllTables<'a> {
         cells: &Boxed,
         kept: &KeptCells,
     ) -> Result<Option<Removal>, Memory>
-        requires machines { length self.old < 4000000000 }
+        requires machines { length self.old.machines < 4000000000 }
         requires requirements { length requirements.now < 4000000000 }
-        requires terms { AllByRecursion (λ r. r.term < length self.old) requirements.now }
-        requires looks { AllByRecursion (λ a. LooksIn a cells.now.present) self.old }
-        requires kept { AreKept requirements.now (spans_of self.old) cells.now.present kept.now }
+        requires terms { AllByRecursion (λ r. r.term < length self.old.machines) requirements.now }
+        requires looks { AllByRecursion (λ a. LooksIn a cells.now.present) self.old.machines }
+        requires kept { AreKept requirements.now (spans_of self.old.machines) cells.now.present kept.now }
+        requires on { self.old.cells ≡ cells.now.present }
         ensures same { self.new ≡ self.old }
         ensures found { IfOk result
-            (λ found. IsFirstDrop requirements.now (spans_of self.old) cells.now.present found) }
+            (λ found. IsFirstDrop requirements.now (spans_of self.old.machines) cells.now.present found) }
     {
         let mut first = None;
         for term in 0..self.each.len() {
@@ -281,44 +302,16 @@ impl<'a> AllTables<'a> {
 }
 
 impl<'a> AllTables<'a> {
-    /// The first of the drops by the requirements of the term, up to cell `last`.
-    fn first_drop(
-        &mut self,
-        alloc: Global,
-        term: u32,
-        requirements: &[Require],
-        last: u32,
-        kept: Option<&KeptTerm>,
-        cells: &Boxed,
-    ) -> Result<Option<Removal>, Memory>
-        requires there { term < length self.old }
-        requires requirements { length requirements.now < 4000000000 }
-        requires looks { OfTerm self.old term (λ a. LooksIn a cells.now.present) }
-        requires kept { OfTerm self.old term
-            (λ a. IsKeptIfKnown requirements.now term a cells.now.present (option_map (λ t. t.now) kept)) }
-        ensures same { self.new ≡ self.old }
-        ensures found { IfOk result (λ found. OfTerm self.old term
-            (λ a. IsFirstOf (IsDropUpTo requirements.now term a cells.now.present last) found)) }
+    /// Tables of which nothing is known. `keeps` says whether rows are kept after a question.
+    fn of(alloc: Global, each: Vec<BoxTables<'a>>, keeps: bool) -> AllTables<'a>
+        requires { (b : Box) → AreRowsOfEach b each.items }
+        ensures { result.machines ≡ machines_of each.entry.items }
     {
-        let found = self.each[term as usize].first_drop(
-            alloc,
-            term,
-            requirements,
-            last,
-            kept,
-            cells,
-        );
-        self.after_question(term);
-        found
-    }
-
-    /// Drops the rows that a question about the term made, if rows aren't kept.
-    fn after_question(&mut self, term: u32)
-        requires { term < length self.old }
-        ensures { self.new ≡ self.old }
-    {
-        if !self.keeps {
-            self.each[term as usize].forget();
+        AllTables {
+            each,
+            keeps,
+            seen: Vec::new(alloc),
+            others: Others::none(alloc),
         }
     }
 }

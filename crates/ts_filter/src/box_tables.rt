@@ -1,25 +1,24 @@
 //! The hulls of a machine that are known of a box while the box changes. The questions that they answer are in
 //! `at_cell`, `first_cell`, `drops` and `kept`.
 
-ghost use Rattle.std.specs.Prelude.{◌≡◌, ◌↔◌, ◌<◌, ◌≤◌, [], IfOk, IsTrue, MatchOption, OnOk, None, length};
-ghost use Rattle.ts_base.specs.Windows.{looked_at};
+ghost use Rattle.std.specs.Prelude.{◌≡◌, ◌↔◌, ◌≤◌, [], IsTrue, MatchOption, OnOk, None, length};
+ghost use Rattle.ts_base.specs.Windows.{LooksInside, looked_at};
 ghost use Rattle.ts_bound.specs.Looks.{first_looked, is_looked, last_looked, read_at};
 ghost use Rattle.ts_bound.specs.TermSpans.{LooksIn, automata_of};
-ghost use Rattle.ts_filter.specs.Boxes.{Box, HasCell};
+ghost use Rattle.ts_filter.specs.Boxes.{Box};
 ghost use Rattle.ts_filter.specs.CellHulls.{HasHulls, IsBackSide, at_cell};
-ghost use Rattle.ts_filter.specs.Gone.{AreLost};
 ghost use Rattle.ts_filter.specs.HeldMachine.{machine_in};
 ghost use Rattle.ts_filter.specs.KnownRows.{AreKnown, AreRowsOf, HasJoints, HasRows, IsPlannedBack};
 ghost use Rattle.ts_filter.specs.KnownRows.{KnownWhereNone, StayKnown, StillKnown};
-ghost use Rattle.ts_filter.specs.Reading.{cells_read};
+ghost use Rattle.ts_filter.specs.Others.{StayKnownOn};
 ghost use Rattle.ts_filter.specs.RowStacks.{no_rows, nothing_laid};
 ghost use Rattle.ts_filter.specs.TermDrops.{AreAmong};
 ghost use Rattle.ts_glue.specs.Machines.{pair_of};
 
 use crate::cell_hulls::{BackSide, CellHulls};
-use crate::gone::{Change, Gone};
+use crate::gone::Change;
 use crate::held_machine::HeldMachine;
-use crate::lost::gone_between;
+use crate::others::Others;
 use crate::reading::{Reading, Way};
 use crate::row_stack::RowStack;
 use crate::rows::make_rows;
@@ -29,7 +28,7 @@ use std::marker::Model;
 use std::mem;
 use ts_base::Memory;
 use ts_bound::{ends, is_looked, read_at};
-use ts_domain::{Boxed, Domain};
+use ts_domain::Boxed;
 use ts_glue::Machine;
 use ts_meet::Joints;
 use ts_model::Require;
@@ -37,11 +36,11 @@ use ts_model::Require;
 /// What one machine says of a box and of the boxes that it becomes. Rows of hulls are made when a question first needs
 /// them, only for the cells that the machine looks at; after a change those that it doesn't reach stay. The others
 /// aren't known then, but are kept: once a row after the changed cells comes out as it was, those after it are known
-/// too. The box isn't inside: each question takes it, and each change of it has to be reported by `changed`. Contracts
-/// see the machine and the rows that are known, forward ones from the first cell on that is looked at, backward ones
-/// from the last one back; those that are kept; and requirements by which no drop was found at a cell that is looked
-/// at, nor is any there before one of these cells changes. At each cell that was asked about, the value that showed
-/// last that some number does what is asked is `likely` to show it again.
+/// too. The box isn't inside: each question takes it, and each change of it has to be reported by `meet_others`.
+/// Contracts see the machine and the rows that are known, forward ones from the first cell on that is looked at,
+/// backward ones from the last one back; those that are kept; and requirements by which no drop was found at a cell
+/// that is looked at, nor is any there before one of these cells changes. At each cell that was asked about, the value
+/// that showed last that some number does what is asked is `likely` to show it again.
 #[derive(Drop)]
 pub(crate) struct BoxTables<'a> {
     machine: HeldMachine<'a>,
@@ -102,11 +101,22 @@ impl<'a> BoxTables<'a> {
         }
     }
 
+    /// Follows a box of `n` cells where these are no longer as they were.
+    pub(crate) fn meet_others(&mut self, others: &Others, n: u32)
+        requires { LooksInside n self.old.machine.window }
+        ensures machine { self.new.machine ≡ self.old.machine }
+        ensures known { StayKnownOn others.now.each.items n self.old self.new }
+    {
+        let (first, last) = ends(self.machine.get().window(), n);
+        match others.change_within(first as usize - 1, last as usize) {
+            Some(change) => self.changed(change),
+            None => {}
+        }
+    }
+
     /// Forgets the rows that a change of the cells that are looked at reaches. The forward row of the first cell that
     /// changes may stay known, without the values that this cell has lost, and so may the backward row of the last one.
-    pub(crate) fn changed(&mut self, change: Change)
-        requires some { change.first < change.last }
-        requires within { change.last ≤ change.count }
+    fn changed(&mut self, change: Change)
         ensures machine { self.new.machine ≡ self.old.machine }
         ensures known { StayKnown change self.old self.new }
     {
@@ -118,25 +128,14 @@ impl<'a> BoxTables<'a> {
         self.quiet.clear();
     }
 
-    /// Which values a cell has lost.
-    pub(crate) fn gone(
-        &mut self,
-        alloc: Global,
-        before: &Domain,
-        now: &Domain,
-    ) -> Result<Option<Gone>, Memory>
-        ensures same { self.new ≡ self.old }
-        ensures lost { IfOk result (λ gone. AreLost gone before.now now.now) }
+    /// Forgets all that is known if it isn't to be kept.
+    pub(crate) fn leave(&mut self, keeps: bool)
+        ensures machine { self.new.machine ≡ self.old.machine }
+        ensures known { (b : Box) → AreKnown b self.old → AreKnown b self.new }
     {
-        if before.size() <= now.size() {
-            return Ok(None);
+        if !keeps {
+            self.forget();
         }
-        let mut lists = self.ahead.take_lists(alloc);
-        lists.before.reset(before)?;
-        lists.here.reset(now)?;
-        let gone = gone_between(lists.before.lend().values, lists.here.lend().values);
-        self.ahead.keep_lists(lists);
-        Ok(gone)
     }
 }
 
@@ -211,18 +210,6 @@ impl<'a> BoxTables<'a> {
         ensures { result ≡ read_at self.now.machine.window p }
     {
         read_at(self.machine.get().window(), p)
-    }
-
-    /// The cells that the machine looks at, from the first one on.
-    pub(crate) fn looked<'b>(&self, cells: &'b Boxed) -> Reading<'b>
-        requires { LooksIn self.now.machine cells.now.present }
-        ensures { cells_read result ≡ looked_at self.now.machine.window cells.now.present }
-    {
-        Reading {
-            cells,
-            window: self.machine.get().window(),
-            way: Way::FromFirst,
-        }
     }
 
     /// The first and the last cell that the machine looks at.

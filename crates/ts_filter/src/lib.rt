@@ -4,9 +4,9 @@
 //! bound, or counts for a bar. The calls on a machine and a box answer the same of the box's span at a cell, and name
 //! the first cell, the first drop and the value to keep; each makes the rows of a machine once, however many cells
 //! there are, and looks at no further pair of states once some number of a span does what is asked. `AllTables` answers
-//! the same questions for the machines of all terms and keeps the rows: those that a change of the box doesn't reach
-//! serve the next box, and so do those after a row that comes out as it was; where a cell only lost values, its row is
-//! cut down to the others. It finds out by itself what has changed.
+//! the same questions for the machines of all terms, of a box that was brought before, and keeps the rows: those that a
+//! change of the box doesn't reach serve the next box, and so do those after a row that comes out as it was; where a
+//! cell only lost values, its row is cut down to the others. `bring` finds out by itself what has changed.
 //! At cells of which its user knows that they have no drop (`KeptCells`) nothing is asked.
 //! The definitions state the rule of each line of a certificate, when a certificate is accepted, its first failing line
 //! and what its claim means; by the laws an accepted certificate means what it claims, whoever wrote it, wherever spans
@@ -20,14 +20,17 @@
 //! next_drop(alloc, &machines, &requirements, &cells)?        // a value that no series with it meets, if one is known
 //!
 //! let mut tables = AllTables::new(alloc, &machines, &domains)?;
+//! tables.bring(alloc, &cells)?;                              // no row is made before it is asked for
 //! tables.refuted(alloc, &requirement, n, &cells)?;           // asks for forward rows alone, since cell n is the last
 //! cells.remove(k, v)?;
-//! tables.first_cut(alloc, term, goal, &cells, bar)?          // makes anew what the change reached
+//! tables.bring(alloc, &cells)?;                              // forgets what the change reached
+//! tables.first_cut(alloc, term, goal, &cells, bar)?          // makes anew what it needs of that
 //! ```
 #![tactic(auto)]
 
 mod all_tables;
 mod any_row;
+mod asking;
 mod at_cell;
 mod bar;
 mod box_tables;
@@ -41,9 +44,9 @@ mod held_machine;
 mod kept;
 mod kept_cells;
 pub mod laws;
-mod live_tables;
 mod lost;
 mod meeting;
+mod others;
 mod planned;
 mod question;
 mod reading;

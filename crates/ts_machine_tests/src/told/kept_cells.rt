@@ -55,5 +55,6 @@ pub(super) fn drop_by_kept(
 {
     let kept = singles(alloc, cells)?;
     let mut tables = AllTables::new(alloc, slice::from_ref(m), &[])?;
+    tables.bring(alloc, cells)?;
     tables.next_drop(alloc, requirements, cells, &kept)
 }

@@ -6,5 +6,5 @@ use Rattle.ts_filter.proofs.all_tables.AllTables.next_drop.Given as goal
 abbrev pub invariant-loop-term : goal.invariant-loop-term
 invariant-loop-term l = record {
   same : l.self ≡ l.fn.self;
-  first : IsFirstOf (DropBelow l.requirements l.fn.self l.cells.present l.term) l.first;
+  first : IsFirstOf (DropBelow l.requirements l.fn.self.machines l.cells.present l.term) l.first;
 }

@@ -1,6 +1,0 @@
-use Rattle.std.proofs.Common.{◌≡◌, take}
-use Rattle.ts_filter.specs.Reading.{cells_read}
-use Rattle.ts_filter.proofs.meeting.first_other.Given as goal
-
-abbrev pub invariant-loop-at : goal.invariant-loop-at
-invariant-loop-at l = take l.at (cells_read l.looked) ≡ take l.at l.seen
