@@ -13,7 +13,7 @@ use Rattle.ts_glue.specs.Machines.{window_of}
 use Rattle.ts_model.specs.declared.model.Require.{Require}
 use Rattle.ts_model.specs.Views.{model_parts}
 use Rattle.ts_spans.specs.Machines.{automata_in}
-use Rattle.ts_witness.specs.KnownValues.{IsSpared}
+use Rattle.ts_witness.specs.KnownValues.{AreBeside, IsSpared}
 use Rattle.ts_witness.specs.Laws.{IsAlive}
 use Rattle.ts_witness.specs.Witnesses.{IsWitness, series_of}
 use Rattle.ts_search.specs.LineOf.{last, requirements}
@@ -33,6 +33,7 @@ pub record IsHeld (r : Require) (s : Shown) : Type 0 where
   pub witness : IsWitness s.machine.now s.witness
   pub cells : AreCellValues (series_of s.witness)
   pub spared : IsSpared s.machine.now r s.spared
+  pub beside : AreBeside s.machine.now (series_of s.witness) s.spared
   pub alive : IsTrue s.met → IsAlive (automata_of s.machine.now) r (series_of s.witness)
 
 -- each witness stands in this relation to the requirement at its place

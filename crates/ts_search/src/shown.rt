@@ -234,6 +234,7 @@ impl<'a> Shown<'a> {
         // its values are within the limits
         domain.size();
         self.witness.set(k, v);
+        self.spared.pass();
         self.met = false;
     }
 

@@ -1,17 +1,18 @@
 -- What is known of the values at each place, wherever the runs have come to the same, and as more values are tried.
-use Rattle.std.proofs.Common.{◌≡◌, ◌⊎◌, inl, inr, ⊎_elim, ℕ, zero, suc, ◌+◌, ◌-◌, ◌<◌, ◌≤◌, ℤ, ◌<ℤ◌, ◌≤ℤ◌, Bool, true, false, cond, List, [], ◌∷◌, ◌++◌, length, take, set, get_or, replicate, reverse, Option, Some, None, slice_get, refl, sym, ◌∙◌, ap, subst, arith}
-use Rattle.std.specs.Prelude.{Contains, IsSome, is_none, is_some, not}
-use Rattle.std.specs.List.{AllByRecursion}
+use Rattle.std.proofs.Common.{◌≡◌, ◌⊎◌, inl, inr, ⊎_elim, ℕ, zero, suc, ◌+◌, ◌-◌, ◌<◌, ◌≤◌, ℤ, ◌<ℤ◌, ◌≤ℤ◌, Bool, true, false, cond, List, [], ◌∷◌, length, set, get_or, replicate, reverse, Option, Some, None, slice_get, refl, sym, ◌∙◌, ap, subst, arith}
+use Rattle.std.specs.Prelude.{Contains, IfSome, IsSome, IsTrue, is_none, is_some, not}
 use Rattle.std.proofs.lemmas.Int.{ints}
 use Rattle.std.proofs.lemmas.List.{length-set}
 use Rattle.std.proofs.lemmas.Option.{same_Some, slice_get-get_or}
 use Rattle.ts_base.specs.Limits.{IsCellValue, most_cells}
+use Rattle.ts_base.specs.Signature.{signature_of}
 use Rattle.ts_automaton.specs.Body.{Body}
-use Rattle.ts_automaton.specs.AutomatonRun.{AreCellValues, after, answer}
+use Rattle.ts_automaton.specs.AutomatonRun.{AreCellValues, answer}
 use Rattle.ts_domain.specs.BoxSeries.{IsBox}
 use Rattle.ts_domain.specs.Values.{IsDomain, IsRising, WithinLimits}
 use Rattle.ts_domain.proofs.Sets.{each_contains}
 use Rattle.ts_domain.proofs.MarkedSets.{at_contains}
+use Rattle.ts_filter.proofs.BoxParts.{domain_at}
 use Rattle.ts_glue.specs.declared.machine.Machine.{Machine}
 use Rattle.ts_glue.specs.Machines.{forward_of, pair_of}
 use Rattle.ts_glue.specs.Pairs.{Pair}
@@ -20,10 +21,12 @@ use Rattle.ts_model.specs.Compares.{compares}
 use Rattle.ts_witness.specs.declared.spared.Known.{Known}
 use Rattle.ts_witness.specs.declared.spared.Spared.{Spared}
 use Rattle.ts_witness.specs.declared.witness.Sides.{Sides}
-use Rattle.ts_witness.specs.KnownValues.{IsEmpty, IsKnown, IsSpared, MeetsWith}
+use Rattle.ts_witness.specs.KnownValues.{AreBeside, IsEmpty, IsKnown, IsLike, IsSpared, MeetsWith}
+use Rattle.ts_witness.specs.Letters.{ReadsLetters}
 use Rattle.ts_witness.specs.Runs.{arrived}
 use Rattle.ts_witness.specs.Witnesses.{AreSides, value_between}
 use Rattle.ts_witness.proofs.Changed.{forward_is, glued_with}
+use Rattle.ts_witness.proofs.Letters.{set_answer}
 
 -- nothing is known
 
@@ -40,24 +43,19 @@ length_replicate zero x = refl
 length_replicate (suc n) x = ap suc (length_replicate n x)
 
 pub new_spared : (s : Spared) (n : ℕ) (x : Known) → IsEmpty x → s.each.items ≡ replicate n x → n ≡ length s.cells.now → IsBox s.cells.now →
-    (m : Machine) (r : Require) → IsSpared m r s
-new_spared s n x none are count box m r = record {
+    (m : Machine) (r : Require) → (IsTrue s.letters → ReadsLetters (forward_of m)) → IsSpared m r s
+new_spared s n x none are count box m r letters = record {
   box = box;
   count = ap length are ∙ length_replicate n x ∙ count;
   each = λ i e h.
       none_known m r (length s.cells.now) (get_or s.cells.now i []) i e
       (subst IsEmpty (sym (of_replicate n i x e (ap (λ z. slice_get z i) (sym are) ∙ h))) none);
+  letters = letters;
 }
 
 -- an entry that is there
 pub entry_there : (xs : List Known) (i : ℕ) (e : Known) → e ≡ get_or xs i e → i < length xs → slice_get xs i ≡ Some e
 entry_there xs i e is below = slice_get-get_or xs i e below ∙ ap Some (sym is)
-
--- what is left of it beside other states
-pub beside_known : (m : Machine) (r : Require) (n : ℕ) (values : List ℤ) (i : ℕ) (e left : Known) → (left ≡ e) ⊎ IsEmpty left → IsKnown m r n values i e →
-    IsKnown m r n values i left
-beside_known m r n values i e left h known =
-    ⊎_elim (λ same. subst (IsKnown m r n values i) (sym same) known) (λ none. none_known m r n values i left none) h
 
 -- what the runs have beside a place tells the value with each value there
 
@@ -108,9 +106,9 @@ get_set (x ∷ xs) (suc i) zero y s e = inr ((λ z. omega (arith, z)), e)
 get_set (x ∷ xs) (suc i) (suc k) y s e =
     ⊎_elim (λ h. inl (ap suc h.0, h.1)) (λ h. inr ((λ z. h.0 (omega (arith, z))), h.1)) (get_set xs i k y s e)
 
-pub put_spared : (m : Machine) (r : Require) (s t : Spared) (i : ℕ) (new : Known) → t.cells ≡ s.cells → t.each.items ≡ set s.each.items i new →
-    IsSpared m r s → IsKnown m r (length s.cells.now) (get_or s.cells.now i []) i new → IsSpared m r t
-put_spared m r s t i new cells change h is = record {
+pub put_spared : (m : Machine) (r : Require) (s t : Spared) (i : ℕ) (new : Known) → t.cells ≡ s.cells → t.letters ≡ s.letters →
+    t.each.items ≡ set s.each.items i new → IsSpared m r s → IsKnown m r (length s.cells.now) (get_or s.cells.now i []) i new → IsSpared m r t
+put_spared m r s t i new cells letters change h is = record {
   box = subst (λ z. IsBox z.now) (sym cells) h.box;
   count = ap length change ∙ length-set s.each.items i new ∙ h.count ∙ ap (λ z. length z.now) (sym cells);
   each = λ j e there.
@@ -120,7 +118,109 @@ put_spared m r s t i new cells change h is = record {
       (subst (IsKnown m r (length s.cells.now) (get_or s.cells.now i []) i) (sym same.1) is))
       (λ other. h.each j e other.1)
       (get_set s.each.items i j new e (ap (λ z. slice_get z j) (sym change) ∙ there)));
+  letters = λ t. h.letters (subst IsTrue letters t);
 }
+
+-- where there is something else beside a place, nothing is known of it
+pub cleared : (m : Machine) (r : Require) (s t : Spared) (i : ℕ) (new : Known) → IsEmpty new → t.cells ≡ s.cells → t.letters ≡ s.letters →
+    t.each.items ≡ set s.each.items i new → IsSpared m r s → IsSpared m r t
+cleared m r s t i new none cells letters change h =
+    put_spared m r s t i new cells letters change h (none_known m r (length s.cells.now) (get_or s.cells.now i []) i new none)
+
+-- what there is beside the place then
+pub beside_cleared : (m : Machine) (y : List ℤ) (xs : List Known) (i : ℕ) (new e : Known) → i < length xs → AreSides m y i new.sides →
+    slice_get (set xs i new) i ≡ Some e → AreSides m y i e.sides
+beside_cleared m y xs i new e l sides there =
+    ⊎_elim (λ same. subst (λ (z : Known). AreSides m y i z.sides) (sym same.1) sides) (λ other. absurd (other.0 refl)) (get_set xs i i new e there)
+
+pub entry_is : (xs : List Known) (i : ℕ) (old e : Known) → old ≡ get_or xs i old → i < length xs → slice_get xs i ≡ Some e → e ≡ old
+entry_is xs i old e is l there = same_Some e old (sym there ∙ entry_there xs i old is l)
+
+-- what is known of a place, where the runs have that beside it
+
+module _ (m : Machine) (r : Require) (y : List ℤ) (old s : Spared) (i : ℕ) (e : Known) (cells : s.cells ≡ old.cells) (spared : IsSpared m r s)
+    (long : length old.cells.now ≡ length y) (inside : i < length y) (few : length y ≤ most_cells) (values : AreCellValues y) (split : IsSome (pair_of m))
+    (is : e ≡ get_or s.each.items i e) (sides : (e : Known) → slice_get s.each.items i ≡ Some e → AreSides m y i e.sides)
+  where
+    same_long : length s.cells.now ≡ length y
+    same_long = ap (λ z. length z.now) cells ∙ long
+
+    there : slice_get s.each.items i ≡ Some e
+    there = let c = spared.count in let l = same_long in entry_there s.each.items i e is (omega (arith, c, l, inside))
+
+    domain : IsDomain (get_or s.cells.now i [])
+    domain = let l = same_long in domain_at s.cells.now i spared.box (omega (arith, l, inside))
+
+    pub told_known : (v : ℤ) → Contains (get_or old.cells.now i []) v → e.least ≤ℤ v → v ≤ℤ e.greatest → MeetsWith (forward_of m) r y i v
+    told_known v has from to =
+        known_meets m y i e.sides inside few values (sides e there) r (get_or s.cells.now i []) e refl domain split
+        (subst (λ n. IsKnown m r n (get_or s.cells.now i []) i e) same_long (spared.each i e there)) v
+        (subst (λ z. Contains (get_or z.now i []) v) (sym cells) has) from to
+
+    pub learnt : (t : Spared) (new : Known) (failing : Option ℤ) (low high : ℤ) → t.cells ≡ s.cells → t.letters ≡ s.letters →
+        t.each.items ≡ set s.each.items i new → new.sides ≡ e.sides → new.least ≡ cond (is_none failing) low e.least →
+        new.greatest ≡ cond (is_none failing) high e.greatest →
+        (failing ≡ None → (v : ℤ) → Contains (get_or old.cells.now i []) v → low ≤ℤ v → v ≤ℤ high → MeetsWith (forward_of m) r y i v) → IsSpared m r t
+    learnt t new failing low high same letters change beside least greatest tried =
+        put_spared m r s t i new same letters change spared
+        (known_next m r (length s.cells.now) (get_or s.cells.now i []) i failing low high e new beside least greatest (spared.each i e there)
+        (λ none is_low is_high. subst (λ n. IsKnown m r n (get_or s.cells.now i []) i new) (sym same_long)
+        (meets_known m y i e.sides inside few values (sides e there) r (get_or s.cells.now i []) new beside domain
+        (λ v has from to. tried none v (subst (λ z. Contains (get_or z.now i []) v) cells has) (subst (λ z. z ≤ℤ v) is_low from)
+        (subst (λ z. v ≤ℤ z) is_high to)))))
+
+-- when each place was last seen
+
+pub new_beside : (s : Spared) (n : ℕ) (x : Known) → x.time ≡ 0 → s.time ≡ 1 → s.each.items ≡ replicate n x → (m : Machine) (y : List ℤ) → AreBeside m y s
+new_beside s n x zero_time one are m y =
+    let first : (i : ℕ) (e : Known) → slice_get s.each.items i ≡ Some e → e.time ≡ 0 =
+    λ i e there. ap (λ (z : Known). z.time) (of_replicate n i x e (ap (λ z. slice_get z i) (sym are) ∙ there)) ∙ zero_time in
+    record {
+      past = λ i e there. let z = first i e there in omega (arith, z);
+      now = λ i e there same moves. let z = first i e there in absurd (omega (arith, z, same, one));
+    }
+
+-- one place is seen now
+pub seen_beside : (m : Machine) (y : List ℤ) (s t : Spared) (i : ℕ) (new : Known) → t.time ≡ s.time → t.each.items ≡ set s.each.items i new →
+    new.time ≡ s.time → AreSides m y i new.sides → AreBeside m y s → AreBeside m y t
+seen_beside m y s t i new time change seen sides h = record {
+  past = λ j e there.
+      ⊎_elim (λ same. let z = ap (λ (z : Known). z.time) same.1 in omega (arith, z, seen, time))
+      (λ other. let z = h.past j e other.1 in omega (arith, z, time))
+      (get_set s.each.items i j new e (ap (λ z. slice_get z j) (sym change) ∙ there));
+  now = λ j e there is moves.
+      ⊎_elim (λ same. subst (λ n. AreSides m y n e.sides) (sym same.0) (subst (λ (z : Known). AreSides m y i z.sides) (sym same.1) sides))
+      (λ other. h.now j e other.1 (is ∙ time) (omega (arith, moves, time)))
+      (get_set s.each.items i j new e (ap (λ z. slice_get z j) (sym change) ∙ there));
+}
+
+-- more is known of one place
+pub learnt_beside : (m : Machine) (y : List ℤ) (s t : Spared) (i : ℕ) (old new : Known) → t.time ≡ s.time → t.each.items ≡ set s.each.items i new →
+    new.time ≡ old.time → new.sides ≡ old.sides → slice_get s.each.items i ≡ Some old → AreBeside m y s → AreBeside m y t
+learnt_beside m y s t i old new time change seen sides at h = record {
+  past = λ j e there.
+      ⊎_elim (λ same. let z = ap (λ (z : Known). z.time) same.1 in let l = h.past i old at in omega (arith, z, seen, l, time))
+      (λ other. let z = h.past j e other.1 in omega (arith, z, time))
+      (get_set s.each.items i j new e (ap (λ z. slice_get z j) (sym change) ∙ there));
+  now = λ j e there is moves.
+      ⊎_elim
+      (λ same. subst (λ n. AreSides m y n e.sides) (sym same.0)
+      (subst (λ (z : Known). AreSides m y i z.sides) (sym same.1)
+      (subst (λ z. AreSides m y i z) (sym sides)
+      (h.now i old at (sym seen ∙ ap (λ (z : Known). z.time) (sym same.1) ∙ is ∙ time) (omega (arith, moves, time))))))
+      (λ other. h.now j e other.1 (is ∙ time) (omega (arith, moves, time)))
+      (get_set s.each.items i j new e (ap (λ z. slice_get z j) (sym change) ∙ there));
+}
+
+-- with a value that compares with the cells beside the place as one does with which it meets
+pub like_meets : (b : Body) (r : Require) (y : List ℤ) (i : ℕ) (u v : ℤ) → IsLike b r y i u → signature_of (set y i u) ≡ signature_of (set y i v) →
+    MeetsWith b r y i v
+like_meets b r y i u v like same = ap (compares r.op r.bound) (sym (set_answer b like.0 y i u v same)) ∙ like.1
+
+pub liked : (b : Body) (r : Require) (y : List ℤ) (i : ℕ) (o : Option ℤ) (letters : Bool) (v : ℤ) → IfSome o (λ u. IsTrue letters × (u ≡ v)) →
+    (IsTrue letters → ReadsLetters b) → MeetsWith b r y i v → IfSome o (IsLike b r y i)
+liked b r y i None letters v h reads meets = tt
+liked b r y i (Some u) letters v h reads meets = (reads h.0, subst (MeetsWith b r y i) (sym h.1) meets)
 
 -- the values of a domain are tried one after the other
 

@@ -2,3 +2,4 @@ pub mod Alive
 mod KnownValues
 mod Runs
 mod Changed
+mod Letters

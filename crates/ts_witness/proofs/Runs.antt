@@ -39,7 +39,7 @@ moved b cells states known j x v a r l e f =
     ap (λ z. step_of b z x v) (r.right j a l e ∙ ap (after b) cut) ∙ sym (after_more b (take j cells) x v)
     ∙ ap (after b) (sym (ap (λ z. z ++ v ∷ []) cut ∙ append_assoc (take j cells) (x ∷ []) (v ∷ [])))
 
-split : (k n : ℕ) → k < n + 1 → (k < n) ⊎ (k ≡ n)
+pub split : (k n : ℕ) → k < n + 1 → (k < n) ⊎ (k ≡ n)
 split zero zero h = inr refl
 split zero (suc n) h = inl (omega arith)
 split (suc k) zero h = absurd (omega (arith, h))
@@ -125,3 +125,9 @@ pub next_side : (b : Body) (cells : List ℤ) (states : List At) (known i : ℕ)
     s.at ≡ get_or states (i - 1) s.at → s.cell ≡ get_or cells (i - 1) s.cell → IsSide b cells i s
 next_side b cells states known zero s r n l e f v = absurd (n refl)
 next_side b cells states known (suc i) s r n l e f v = moved_at b cells states known (suc i) r n l s.at e s.cell v f
+
+-- as what it has beside the place is known to be
+pub same_side : (b : Body) (cells : List ℤ) (states : List At) (known i : ℕ) (s : Side) (a : At) (x : ℤ) → IsRun b cells states known → (i ≡ 0 → ⊥) →
+    i ≤ known → s.at ≡ a → s.cell ≡ x → a ≡ get_or states (i - 1) a → x ≡ get_or cells (i - 1) x → IsSide b cells i s
+same_side b cells states known i s a x r n l at cell e f =
+    next_side b cells states known i s r n l (subst (λ z. z ≡ get_or states (i - 1) z) (sym at) e) (subst (λ z. z ≡ get_or cells (i - 1) z) (sym cell) f)

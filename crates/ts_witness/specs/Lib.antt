@@ -1,4 +1,5 @@
 pub mod Runs
 pub mod Witnesses
+pub mod Letters
 pub mod Laws
 pub mod KnownValues

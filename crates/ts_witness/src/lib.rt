@@ -7,6 +7,7 @@
 
 mod asked;
 pub mod laws;
+mod reading;
 mod run;
 mod spared;
 mod witness;

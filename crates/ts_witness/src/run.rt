@@ -18,17 +18,18 @@ pub(crate) struct Side {
 }
 
 impl Side {
-    /// Whether both are one.
-    pub(crate) fn is_same(&self, other: &Side) -> bool
-        ensures { IsTrue result → self.now ≡ other.now }
+    /// Whether it is this.
+    fn is(&self, at: &At, cell: i64) -> bool
+        ensures state { IsTrue result → self.now.at ≡ at.now }
+        ensures cell { IsTrue result → self.now.cell ≡ cell }
     {
-        if self.cell != other.cell {
+        if self.cell != cell {
             return false;
         }
-        if self.at.state != other.at.state {
+        if self.at.state != at.state {
             return false;
         }
-        are_same(&self.at.regs, &other.at.regs)
+        are_same(&self.at.regs, &at.regs)
     }
 }
 
@@ -84,7 +85,6 @@ impl Run {
     }
 
     /// Where the automaton stands after the cells before place `i` and then the value `v`, once these are known.
-
     fn arrived(&self, a: &Automaton, i: usize, v: i64) -> At
         requires runs { Runs a.now self.now }
         requires known { i ≤ self.now.known }
@@ -156,6 +156,21 @@ impl Run {
             at: self.states[i - 1],
             cell: self.cells[i - 1],
         }
+    }
+
+    /// Whether it is this that is known beside place `i`, as far as it matters: at the first place nothing does.
+    pub(crate) fn has_beside(&mut self, a: &Automaton, i: usize, side: &Side) -> bool
+        requires runs { Runs a.now self.old }
+        requires place { i < length (cells_in self.old) }
+        ensures runs { Runs a.now self.new }
+        ensures cells { cells_in self.new ≡ cells_in self.old }
+        ensures side { IsTrue result → IsSide a.now (cells_in self.old) i side.now }
+    {
+        self.know(a, i);
+        if i == 0 {
+            return true;
+        }
+        side.is(&self.states[i - 1], self.cells[i - 1])
     }
 
     /// A run of these cells, of which nothing is known. `filler` stands where nothing is known.

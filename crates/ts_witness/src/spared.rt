@@ -1,17 +1,20 @@
 //! What is known of the values of each cell, so that it isn't asked again where the runs have come to the same.
 
-ghost use Rattle.std.specs.Prelude.{◌≡◌, ◌⊎◌, ◌≤◌, ◌≤ℤ◌, ◌-◌, ℤ, [], Contains, IfOk, IsSome, IsTrue, None};
-ghost use Rattle.std.specs.Prelude.{false, get_or, if◌then◌else◌, is_none, length};
+ghost use Rattle.std.specs.Prelude.{◌≡◌, ◌≤◌, ◌≤ℤ◌, ◌-◌, ℤ, [], Contains, IfOk, IfSome, IsSome, IsTrue, List, None, Some};
+ghost use Rattle.std.specs.Prelude.{false, get_or, if◌then◌else◌, is_none, length, slice_get};
 ghost use Rattle.ts_automaton.specs.AutomatonRun.{AreCellValues};
-ghost use Rattle.ts_base.specs.Limits.{most_cells};
+ghost use Rattle.ts_base.specs.Limits.{IsCellValue, most_cells};
 ghost use Rattle.ts_bound.specs.TermSpans.{automata_of};
 ghost use Rattle.ts_domain.specs.BoxSeries.{IsBox};
+ghost use Rattle.ts_glue.specs.declared.machine.Machine.{Machine};
 ghost use Rattle.ts_glue.specs.Machines.{forward_of, pair_of};
 ghost use Rattle.ts_model.specs.declared.model.Require.{Require};
 ghost use Rattle.ts_witness.specs.Laws.{IsKept};
-ghost use Rattle.ts_witness.specs.KnownValues.{IsEmpty, IsSpared, MeetsWith};
-ghost use Rattle.ts_witness.specs.Witnesses.{IsWitness, series_of};
+ghost use Rattle.ts_witness.specs.KnownValues.{AreBeside, IsEmpty, IsLike, IsSpared, MeetsWith};
+ghost use Rattle.ts_witness.specs.Letters.{ReadsLetters};
+ghost use Rattle.ts_witness.specs.Witnesses.{AreSides, IsWitness, series_of};
 
+use crate::reading::reads_letters;
 use crate::run::Side;
 use crate::witness::{Sides, Witness};
 use std::alloc::Global;
@@ -21,41 +24,32 @@ use ts_glue::Machine;
 use ts_model::Require;
 
 /// So many values of a cell are tried at once.
-const MOST_TRIED: u64 = 64;
+const MOST_TRIED: u64 = 256;
 
 /// Where the runs have this beside a cell, a series is known to meet a requirement with each value there from `least`
-/// to `greatest`, if there are any; with `hard`, if there is one, it isn't.
+/// to `greatest`, if there are any; with `hard`, if there is one, it isn't. They were last seen to have this at `time`.
 #[derive(Clone, Copy)]
 struct Known {
     sides: Sides,
+    time: u64,
     least: i64,
     greatest: i64,
     hard: Option<i64>,
 }
 
 impl Known {
-    /// Nothing is known.
-    fn nothing(sides: Sides) -> Known
+    /// Nothing is known where the runs are seen to have this at this time.
+    fn nothing(sides: Sides, time: u64) -> Known
         ensures sides { result.sides ≡ sides }
+        ensures time { result.time ≡ time }
         ensures none { IsEmpty result }
     {
         Known {
             sides,
+            time,
             least: 1,
             greatest: 0,
             hard: None,
-        }
-    }
-
-    /// What is known where the runs have this beside the cell: the same, or nothing.
-    fn beside(self, sides: Sides) -> Known
-        ensures sides { result.sides ≡ sides }
-        ensures known { (result ≡ self) ⊎ IsEmpty result }
-    {
-        if self.sides.are_same(&sides) {
-            self
-        } else {
-            Known::nothing(sides)
         }
     }
 
@@ -63,6 +57,7 @@ impl Known {
     /// to meet the requirement.
     fn and_then(self, low: i64, high: i64, failing: Option<i64>) -> Known
         ensures sides { result.sides ≡ self.sides }
+        ensures time { result.time ≡ self.time }
         ensures least { result.least ≡ (if is_none failing then low else self.least) }
         ensures greatest { result.greatest ≡ (if is_none failing then high else self.greatest) }
     {
@@ -81,11 +76,14 @@ impl Known {
 }
 
 /// For each of these cells the values with which a series is known to meet a requirement, wherever the runs have the
-/// same beside the cell. So no change of the series has to be told. After `new` nothing is allocated.
+/// same beside the cell. The time is one more after each change of the series. With `letters` the steps of the machine
+/// are by letters alone. After `new` nothing is allocated.
 #[derive(Drop)]
 pub struct Spared<'a> {
     cells: &'a [Domain],
     each: Vec<Known>,
+    letters: bool,
+    time: u64,
 }
 
 impl<'a> Spared<'a> {
@@ -94,6 +92,7 @@ impl<'a> Spared<'a> {
         requires { IsBox cells.now }
         ensures cells { IfOk result (λ s. s.cells.now ≡ cells.now) }
         ensures spared { IfOk result (λ s. (r : Require) → IsSpared m.now r s) }
+        ensures beside { IfOk result (λ s. (y : List ℤ) → AreBeside m.now y s) }
     {
         let filler = Side {
             at: m.forward().start(),
@@ -103,8 +102,14 @@ impl<'a> Spared<'a> {
             left: filler,
             right: filler,
         };
-        let each = vec![in alloc; Known::nothing(sides); cells.len()]?;
-        Ok(Spared { cells, each })
+        let each = vec![in alloc; Known::nothing(sides, 0); cells.len()]?;
+        let letters = reads_letters(m.forward());
+        Ok(Spared {
+            cells,
+            each,
+            letters,
+            time: 1,
+        })
     }
 
     /// Whether the series meets the requirement with each value of cell `k`, counted from 1, from `low`, which is one
@@ -128,27 +133,70 @@ impl<'a> Spared<'a> {
         requires to { k ≤ length (series_of witness.old) }
         requires count { length self.old.cells.now ≡ length (series_of witness.old) }
         requires spared { IsSpared m.now r.now self.old }
+        requires beside { AreBeside m.now (series_of witness.old) self.old }
         requires there { Contains (get_or self.old.cells.now (k - 1) []) low }
         ensures witness { IsWitness m.now witness.new }
         ensures series { series_of witness.new ≡ series_of witness.old }
         ensures same { self.new.cells ≡ self.old.cells }
         ensures spared { IsSpared m.now r.now self.new }
+        ensures beside { AreBeside m.now (series_of witness.old) self.new }
         ensures told { IsTrue result → (v : ℤ) → Contains (get_or self.old.cells.now (k - 1) []) v →
             low ≤ℤ v → v ≤ℤ high → MeetsWith (forward_of m.now) r.now (series_of witness.old) (k - 1) v }
         ensures kept { IsTrue result → (v : ℤ) → Contains (get_or self.old.cells.now (k - 1) []) v →
             low ≤ℤ v → v ≤ℤ high → IsKept (automata_of m.now) r.now (series_of witness.old) k v }
     {
         let i = k as usize - 1;
-        let known = self.each[i].beside(witness.sides(m, k));
+        self.bring_beside(witness, m, k);
+        let cells = self.cells;
+        let known = &self.each[i];
         if known.least <= low && high <= known.greatest {
             return true;
         }
         if is_between(known.hard, low, high) {
             return false;
         }
-        let failing = first_failing(witness, m, r, k, &self.cells[i], low, high);
+        let letters = self.letters;
+        let failing = first_failing(witness, m, r, k, &cells[i], letters, low, high);
         self.each[i] = known.and_then(low, high, failing);
         failing.is_none()
+    }
+
+    /// Forgets what is known of cell `k`, counted from 1, if the runs have something else beside it now.
+    fn bring_beside(&mut self, witness: &mut Witness, m: &Machine, k: u32)
+        requires split { IsSome (pair_of m.now) }
+        requires witness { IsWitness m.now witness.old }
+        requires from { 1 ≤ k }
+        requires to { k ≤ length (series_of witness.old) }
+        requires count { length self.old.each.items ≡ length (series_of witness.old) }
+        requires beside { AreBeside m.now (series_of witness.old) self.old }
+        ensures witness { IsWitness m.now witness.new }
+        ensures series { series_of witness.new ≡ series_of witness.old }
+        ensures same { self.new.cells ≡ self.old.cells }
+        ensures spared { (r : Require) → IsSpared m.now r self.old → IsSpared m.now r self.new }
+        ensures beside { AreBeside m.now (series_of witness.old) self.new }
+        ensures here { (e : Known) → slice_get self.new.each.items (k - 1) ≡ Some e →
+            AreSides m.now (series_of witness.old) (k - 1) e.sides }
+    {
+        let i = k as usize - 1;
+        if self.each[i].time == self.time && self.time < u64::MAX {
+            return;
+        }
+        if witness.has_beside(m, k, &self.each[i].sides) {
+            self.each[i].time = self.time;
+        } else {
+            self.each[i] = Known::nothing(witness.sides(m, k), self.time);
+        }
+    }
+
+    /// The series is another from now on.
+    pub fn pass(&mut self)
+        ensures same { self.new.cells ≡ self.old.cells }
+        ensures spared { (m : Machine) (r : Require) → IsSpared m r self.old → IsSpared m r self.new }
+        ensures beside { (m : Machine) (x y : List ℤ) → AreBeside m x self.old → AreBeside m y self.new }
+    {
+        if self.time < u64::MAX {
+            self.time += 1;
+        }
     }
 }
 
@@ -163,13 +211,15 @@ fn is_between(v: Option<i64>, low: i64, high: i64) -> bool
 }
 
 /// The first value of a domain from `low`, which is one of them, to `high` with which, at place `k` of the series,
-/// counted from 1, this doesn't meet the requirement, or that is one too many to be tried.
+/// counted from 1, this doesn't meet the requirement, or that is one too many to be tried. Where the steps of the machine
+/// are by letters alone, of values that compare in the same way with the cells beside the place only one is tried.
 fn first_failing(
     witness: &mut Witness,
     m: &Machine,
     r: &Require,
     k: u32,
     domain: &Domain,
+    letters: bool,
     low: i64,
     high: i64,
 ) -> Option<i64>
@@ -179,6 +229,7 @@ fn first_failing(
     requires cells { AreCellValues (series_of witness.old) }
     requires from { 1 ≤ k }
     requires to { k ≤ length (series_of witness.old) }
+    requires letters { IsTrue letters → ReadsLetters (forward_of m.now) }
     requires there { Contains domain.now low }
     ensures witness { IsWitness m.now witness.new }
     ensures series { series_of witness.new ≡ series_of witness.old }
@@ -187,6 +238,7 @@ fn first_failing(
 {
     let count = domain.size();
     let from = domain.place_of(low);
+    let mut like = None;
     for i in from..count {
         let v = domain.nth(i);
         if v > high {
@@ -195,9 +247,45 @@ fn first_failing(
         if i - from >= MOST_TRIED {
             return Some(v);
         }
-        if !witness.keeps(m, r, k, v) {
+        if !meets_with(witness, m, r, k, v, like) {
             return Some(v);
         }
+        like = some_if(letters, v);
     }
     None
+}
+
+/// The value, where the steps are by letters alone.
+fn some_if(letters: bool, v: i64) -> Option<i64>
+    ensures { IfSome result (λ u. IsTrue letters × (u ≡ v)) }
+{
+    if letters { Some(v) } else { None }
+}
+
+/// Whether the series with `v` at place `k`, counted from 1, meets the requirement. Where `like` is some value, it does
+/// with that, and the steps of the machine are by letters alone.
+fn meets_with(
+    witness: &mut Witness,
+    m: &Machine,
+    r: &Require,
+    k: u32,
+    v: i64,
+    like: Option<i64>,
+) -> bool
+    requires split { IsSome (pair_of m.now) }
+    requires witness { IsWitness m.now witness.old }
+    requires few { length (series_of witness.old) ≤ most_cells }
+    requires cells { AreCellValues (series_of witness.old) }
+    requires from { 1 ≤ k }
+    requires to { k ≤ length (series_of witness.old) }
+    requires value { IsCellValue v }
+    requires like { IfSome like (IsLike (forward_of m.now) r.now (series_of witness.old) (k - 1)) }
+    ensures witness { IsWitness m.now witness.new }
+    ensures series { series_of witness.new ≡ series_of witness.old }
+    ensures told { IsTrue result → MeetsWith (forward_of m.now) r.now (series_of witness.old) (k - 1) v }
+{
+    match like {
+        Some(u) if witness.compares_as(k, u, v) => true,
+        _ => witness.keeps(m, r, k, v),
+    }
 }

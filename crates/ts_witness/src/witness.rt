@@ -1,9 +1,10 @@
 //! A series with its value, and the value of each series that differs from it in one cell.
 
-ghost use Rattle.std.specs.Prelude.{◌≡◌, ◌<◌, ◌≤◌, ◌-◌, ◌++◌, ◌∷◌, [], IfOk, IfSome, IsSome, IsTrue, Some};
+ghost use Rattle.std.specs.Prelude.{◌≡◌, ◌<◌, ◌≤◌, ◌-◌, ◌+◌, ◌⊎◌, ◌++◌, ◌∷◌, ℤ, [], IfOk, IfSome, IsSome, IsTrue, Some};
 ghost use Rattle.std.specs.Prelude.{length, reverse, set, slice_get, take};
 ghost use Rattle.ts_automaton.specs.AutomatonRun.{AreCellValues, Stands, after, answer, standing_of};
 ghost use Rattle.ts_base.specs.Limits.{IsCellValue, most_cells};
+ghost use Rattle.ts_base.specs.Signature.{letter_of, signature_of};
 ghost use Rattle.ts_glue.specs.declared.machine.Machine.{Machine};
 ghost use Rattle.ts_glue.specs.Machines.{forward_of, pair_of, reverse_of};
 ghost use Rattle.ts_glue.specs.Pairs.{Pair};
@@ -21,15 +22,6 @@ use ts_glue::{Machine, glue_value};
 pub(crate) struct Sides {
     pub(crate) left: Side,
     pub(crate) right: Side,
-}
-
-impl Sides {
-    /// Whether both are one.
-    pub(crate) fn are_same(&self, others: &Sides) -> bool
-        ensures { IsTrue result → self.now ≡ others.now }
-    {
-        self.left.is_same(&others.left) && self.right.is_same(&others.right)
-    }
 }
 
 /// A series of up to 512 cells, with where the automata of a machine stand along it, as far as they were asked: the
@@ -135,6 +127,40 @@ impl Witness {
         Sides { left, right }
     }
 
+    /// Whether both runs have this beside cell `k`, counted from 1, as far as it matters. Only for a machine that can be
+    /// split.
+    pub(crate) fn has_beside(&mut self, m: &Machine, k: u32, sides: &Sides) -> bool
+        requires split { IsSome (pair_of m.now) }
+        requires witness { IsWitness m.now self.old }
+        requires from { 1 ≤ k }
+        requires to { k ≤ length (series_of self.old) }
+        ensures witness { IsWitness m.now self.new }
+        ensures series { series_of self.new ≡ series_of self.old }
+        ensures sides { IsTrue result → AreSides m.now (series_of self.old) (k - 1) sides.now }
+    {
+        let n = self.ahead.cells.len();
+        let i = k as usize;
+        if !self.ahead.has_beside(m.forward(), i - 1, &sides.left) {
+            return false;
+        }
+        has_behind(&mut self.behind, m, n - i, &sides.right)
+    }
+
+    /// Whether `v` at cell `k`, counted from 1, compares with the cells beside it as `u` does there.
+    pub(crate) fn compares_as(&self, k: u32, u: i64, v: i64) -> bool
+        requires from { 1 ≤ k }
+        requires to { k ≤ length (series_of self.now) }
+        ensures { IsTrue result → signature_of (set (series_of self.now) (k - 1) u)
+            ≡ signature_of (set (series_of self.now) (k - 1) v) }
+    {
+        let cells = self.ahead.cells.as_slice();
+        let i = k as usize - 1;
+        if !are_like_after(cells, i, u, v) {
+            return false;
+        }
+        are_like_before(cells, i, u, v)
+    }
+
     /// The value of cell `k`, counted from 1, from now on.
     pub fn set(&mut self, k: u32, v: i64)
         requires from { 1 ≤ k }
@@ -148,6 +174,32 @@ impl Witness {
         self.ahead.set(i - 1, v);
         self.behind.set(n - i, v);
     }
+}
+
+/// Whether both values compare in the same way with the cell before place `i`, if there is one.
+fn are_like_after(cells: &[i64], i: usize, u: i64, v: i64) -> bool
+    requires { i < length cells.now }
+    ensures { IsTrue result →
+        (i ≡ 0) ⊎ ((x : ℤ) → slice_get cells.now (i - 1) ≡ Some x → letter_of x u ≡ letter_of x v) }
+{
+    i == 0 || are_like(cells[i - 1], u, v)
+}
+
+/// Whether both compare in the same way with the cell after place `i`, if there is one.
+fn are_like_before(cells: &[i64], i: usize, u: i64, v: i64) -> bool
+    requires { i < length cells.now }
+    ensures { IsTrue result →
+        (length cells.now ≤ i + 1) ⊎ ((x : ℤ) → slice_get cells.now (i + 1) ≡ Some x → letter_of u x ≡ letter_of v x) }
+{
+    cells.len() <= i + 1 || are_like(cells[i + 1], u, v)
+}
+
+/// Whether `u` and `v` compare in the same way with `x`.
+fn are_like(x: i64, u: i64, v: i64) -> bool
+    ensures after { IsTrue result → letter_of x u ≡ letter_of x v }
+    ensures before { IsTrue result → letter_of u x ≡ letter_of v x }
+{
+    (x < u) == (x < v) && (u < x) == (v < x)
 }
 
 /// Where the reverse automaton stands after the last `j` cells and then the value `v`.
@@ -178,6 +230,22 @@ fn side_behind(run: &mut Run, m: &Machine, j: usize) -> Side
 {
     match m.reverse() {
         Some(reverse) => run.side(reverse, j),
+        None => unreachable!(),
+    }
+}
+
+/// Whether it is this that the run of the reverse automaton has beside the cell behind which there are `j` others.
+fn has_behind(run: &mut Run, m: &Machine, j: usize, side: &Side) -> bool
+    requires split { IsSome (pair_of m.now) }
+    requires runs { (p : Pair) → pair_of m.now ≡ Some p → Runs p.reverse run.old }
+    requires place { j < length (cells_in run.old) }
+    ensures runs { (p : Pair) → pair_of m.now ≡ Some p → Runs p.reverse run.new }
+    ensures cells { cells_in run.new ≡ cells_in run.old }
+    ensures side { IsTrue result → (p : Pair) → pair_of m.now ≡ Some p →
+        IsSide p.reverse (cells_in run.old) j side.now }
+{
+    match m.reverse() {
+        Some(reverse) => run.has_beside(reverse, j, side),
         None => unreachable!(),
     }
 }

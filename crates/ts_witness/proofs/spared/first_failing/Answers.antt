@@ -1,4 +1,4 @@
-use Rattle.std.proofs.Common.{rules, SFits, ◌≡◌, ◌-◌, ◌≤◌, ◌≤ℤ◌, ◌<ℤ◌, ◌∙◌, ap, refl, sym, subst, true, arith, Some, slice_get, w64, to_z, of_z}
+use Rattle.std.proofs.Common.{rules, ◌-◌, ◌≤ℤ◌, ◌<ℤ◌, ◌∙◌, refl, sym, subst, true, arith, w64, to_z, of_z}
 use Rattle.std.proofs.lemmas.Int.{to_z-of_z}
 use Rattle.ts_domain.specs.Values.{WithinLimits}
 use Rattle.ts_domain.proofs.MarkedSets.{at_contains}
@@ -6,13 +6,14 @@ use Rattle.ts_domain.proofs.Sets.{each_contains, true_lt}
 use Rattle.ts_glue.specs.Machines.{forward_of}
 use Rattle.ts_witness.specs.KnownValues.{MeetsWith}
 use Rattle.ts_witness.specs.Witnesses.{series_of}
-use Rattle.ts_witness.proofs.KnownValues.{none_tried, one_tried, tried_all, tried_to}
+use Rattle.ts_witness.proofs.KnownValues.{liked, none_tried, one_tried, tried_all, tried_to}
 use Rattle.ts_witness.proofs.spared.first_failing.Goals as goal
 
 pub loop-i-init : goal.loop-i-init
 loop-i-init c = record {
   witness = c.requires.witness;
   series = refl;
+  like = tt;
   tried = none_tried (forward_of c.args.m.now) c.args.r.now (series_of c.args.witness.now) (c.args.k - 1) c.args.domain.now (to_z w64 (of_z w64 c.args.low))
       c.place_of-from.result c.size-count.ensures.domain.rising c.place_of-from.ensures;
 }
@@ -27,8 +28,8 @@ returns-then-v-high-clause-none c =
     (to_z w64 (of_z w64 c.args.low)) c.loop-i.i c.nth-v.result c.args.high c.size-count.ensures.domain.rising c.loop-i.invariant.tried c.nth-v.ensures
     above v has (subst (λ z. z ≤ℤ v) (sym (to_z-of_z w64 c.args.low c.ranges.low)) from) to
 
-pub keeps-requires-clause-value : goal.keeps-requires-clause-value
-keeps-requires-clause-value c =
+pub meets_with-requires-clause-value : goal.meets_with-requires-clause-value
+meets_with-requires-clause-value c =
     let v = c.nth-v.result in
     subst WithinLimits (sym (to_z-of_z w64 v (search rules)))
     (each_contains WithinLimits c.args.domain.now v c.size-count.ensures.domain.within (at_contains c.args.domain.now c.loop-i.i v c.nth-v.ensures))
@@ -36,15 +37,17 @@ keeps-requires-clause-value c =
 pub loop-i-preserved : goal.loop-i-preserved
 loop-i-preserved c =
     let b = forward_of c.args.m.now in
+    let r = c.args.r.now in
     let y = series_of c.args.witness.now in
+    let i = c.args.k - 1 in
     let v = c.nth-v.result in
-    let told : MeetsWith b c.args.r.now (series_of c.loop-i.witness) (c.args.k - 1) (to_z w64 (of_z w64 v)) = sym c.keeps.ensures.told ∙ c.if-not-keeps.false in
+    let told = subst (λ z. MeetsWith b r z i (to_z w64 (of_z w64 v))) c.loop-i.invariant.series (c.meets_with.ensures.told c.if-not-meets_with.false) in
     record {
-      witness = c.keeps.ensures.witness;
-      series = c.keeps.ensures.series ∙ c.loop-i.invariant.series;
-      tried = one_tried b c.args.r.now y (c.args.k - 1) c.args.domain.now (to_z w64 (of_z w64 c.args.low)) c.loop-i.i v c.loop-i.invariant.tried c.nth-v.ensures
-          (subst (MeetsWith b c.args.r.now y (c.args.k - 1)) (to_z-of_z w64 v (search rules))
-          (subst (λ z. MeetsWith b c.args.r.now z (c.args.k - 1) (to_z w64 (of_z w64 v))) c.loop-i.invariant.series told));
+      witness = c.meets_with.ensures.witness;
+      series = c.meets_with.ensures.series ∙ c.loop-i.invariant.series;
+      like = liked b r y i c.some_if-like.result c.args.letters (to_z w64 (of_z w64 v)) c.some_if-like.ensures c.requires.letters told;
+      tried = one_tried b r y i c.args.domain.now (to_z w64 (of_z w64 c.args.low)) c.loop-i.i v c.loop-i.invariant.tried c.nth-v.ensures
+          (subst (MeetsWith b r y i) (to_z-of_z w64 v (search rules)) told);
     }
 
 pub returns-clause-none : goal.returns-clause-none

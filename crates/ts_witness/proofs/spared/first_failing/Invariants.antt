@@ -1,5 +1,7 @@
 use Rattle.std.proofs.Common.{◌≡◌, ◌-◌}
+use Rattle.std.specs.Prelude.{IfSome}
 use Rattle.ts_glue.specs.Machines.{forward_of}
+use Rattle.ts_witness.specs.KnownValues.{IsLike}
 use Rattle.ts_witness.specs.Witnesses.{IsWitness, series_of}
 use Rattle.ts_witness.proofs.KnownValues.{AreTried}
 use Rattle.ts_witness.proofs.spared.first_failing.Given as goal
@@ -9,5 +11,6 @@ abbrev pub invariant-loop-i : goal.invariant-loop-i
 invariant-loop-i l = record {
   witness : IsWitness l.m l.witness;
   series : series_of l.witness ≡ series_of l.fn.witness;
+  like : IfSome l.like (IsLike (forward_of l.m) l.r (series_of l.fn.witness) (l.k - 1));
   tried : AreTried (forward_of l.m) l.r (series_of l.fn.witness) (l.k - 1) l.domain l.fn.low l.i;
 }

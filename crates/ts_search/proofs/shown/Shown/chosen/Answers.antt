@@ -1,6 +1,7 @@
 use Rattle.std.proofs.Common.{◌≡◌, sym, subst}
 use Rattle.ts_automaton.specs.AutomatonRun.{AreCellValues}
 use Rattle.ts_bound.specs.TermSpans.{automata_of}
+use Rattle.ts_witness.specs.KnownValues.{AreBeside}
 use Rattle.ts_witness.specs.Laws.{IsAlive}
 use Rattle.ts_witness.specs.Witnesses.{series_of}
 use Rattle.ts_search.proofs.shown.Shown.chosen.Goals as goal
@@ -14,5 +15,6 @@ returns-clause-held c =
       witness = c.nearest.ensures.witness;
       cells = subst AreCellValues same c.requires.held.cells;
       spared = c.requires.held.spared;
+      beside = subst (λ y. AreBeside s.machine.now y s.spared) same c.requires.held.beside;
       alive = λ t. subst (IsAlive (automata_of s.machine.now) r) same (c.requires.held.alive t);
     }

@@ -7,5 +7,6 @@ returns-clause-held c = λ r. record {
   witness = c.in_ok-witness.ensures.witness;
   cells = subst AreCellValues (sym c.in_ok-witness.ensures.series) c.loop-domain.invariant.cells;
   spared = c.in_ok-spared.ensures.spared r;
+  beside = c.in_ok-spared.ensures.beside _;
   alive = λ t. absurd (let z : ◌≡◌ {A = Bool} false true = t in cc);
 }

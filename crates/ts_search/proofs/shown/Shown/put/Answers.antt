@@ -13,6 +13,7 @@ returns-clause-held c =
       witness = c.set.ensures.witness s.machine.now c.requires.held.witness;
       cells = cells_after (series_of s.witness) (series_of c.set.new.self) c.args.domain.now (c.args.k - 1) (to_z w64 (of_z w64 c.args.v)) c.requires.held.cells
           c.size.ensures.domain (subst (Contains c.args.domain.now) (sym (to_z-of_z w64 c.args.v c.ranges.v)) c.requires.there) c.set.ensures.series;
-      spared = c.requires.held.spared;
+      spared = c.pass.ensures.spared s.machine.now r c.requires.held.spared;
+      beside = c.pass.ensures.beside s.machine.now (series_of s.witness) (series_of c.set.new.self) c.requires.held.beside;
       alive = λ t. absurd (let z : ◌≡◌ {A = Bool} false true = t in cc);
     }

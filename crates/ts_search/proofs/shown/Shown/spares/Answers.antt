@@ -1,6 +1,7 @@
 use Rattle.std.proofs.Common.{◌≡◌, sym, subst}
 use Rattle.ts_automaton.specs.AutomatonRun.{AreCellValues}
 use Rattle.ts_bound.specs.TermSpans.{automata_of}
+use Rattle.ts_witness.specs.KnownValues.{AreBeside}
 use Rattle.ts_witness.specs.Laws.{IsAlive}
 use Rattle.ts_search.proofs.shown.Shown.spares.Goals as goal
 
@@ -13,5 +14,6 @@ returns-clause-held c =
       witness = c.keeps_between.ensures.witness;
       cells = subst AreCellValues same c.requires.held.cells;
       spared = c.keeps_between.ensures.spared;
+      beside = subst (λ y. AreBeside s.machine.now y c.keeps_between.new.self) same c.keeps_between.ensures.beside;
       alive = λ t. subst (IsAlive (automata_of s.machine.now) r) same (c.requires.held.alive t);
     }

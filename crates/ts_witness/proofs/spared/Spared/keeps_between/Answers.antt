@@ -1,71 +1,92 @@
-use Rattle.std.proofs.Common.{rules, ◌≡◌, ◌≤ℤ◌, ◌<◌, ◌-◌, ◌∙◌, ap, [], refl, sym, subst, length, get_or, ℤ, List, None, true, arith, w64, to_z, of_z}
+use Rattle.std.proofs.Common.{rules, ◌≡◌, ◌≤ℤ◌, ◌<◌, ◌-◌, ◌∙◌, ap, [], refl, sym, subst, length, vec_len, get_or, ℤ, true, arith, w64, to_z, of_z}
 use Rattle.std.specs.Prelude.{Contains}
 use Rattle.std.proofs.lemmas.Int.{ints, to_z-of_z}
 use Rattle.std.proofs.lemmas.List.{get_or_default}
 use Rattle.ts_bound.specs.TermSpans.{automata_of}
-use Rattle.ts_filter.proofs.BoxParts.{domain_at}
 use Rattle.ts_glue.specs.Machines.{forward_of}
-use Rattle.ts_witness.specs.KnownValues.{IsKnown, MeetsWith}
-use Rattle.ts_witness.specs.Witnesses.{AreSides, series_of}
+use Rattle.ts_witness.specs.KnownValues.{MeetsWith}
+use Rattle.ts_witness.specs.Witnesses.{series_of}
 use Rattle.ts_witness.proofs.Alive.{told_kept}
-use Rattle.ts_witness.proofs.KnownValues.{beside_known, entry_there, known_meets, known_next, meets_known, nothing_failed, put_spared}
+use Rattle.ts_witness.proofs.KnownValues.{entry_there, learnt, learnt_beside, nothing_failed, told_known}
 use Rattle.ts_witness.proofs.spared.Spared.keeps_between.Goals as goal
+
+pub index-known-requires : goal.index-known-requires
+index-known-requires c =
+    let s = c.bring_beside.new.self in
+    let size : vec_len s.each ≡ length s.each.items = search rules in
+    let count = (c.bring_beside.ensures.spared c.args.r.now c.requires.spared).count in
+    let as_long : length s.cells.now ≡ length c.args.self.now.cells.now = ap (λ z. length z.now) c.bring_beside.ensures.same in
+    let long = c.requires.count in let to = c.requires.to in let from = c.requires.from in omega (arith, size, count, as_long, long, to, from)
+
+pub index_mut-requires : goal.index_mut-requires
+index_mut-requires c =
+    let s = c.bring_beside.new.self in
+    let size : vec_len s.each ≡ length s.each.items = search rules in
+    let count = (c.bring_beside.ensures.spared c.args.r.now c.requires.spared).count in
+    let as_long : length s.cells.now ≡ length c.args.self.now.cells.now = ap (λ z. length z.now) c.bring_beside.ensures.same in
+    let long = c.requires.count in let to = c.requires.to in let from = c.requires.from in omega (arith, size, count, as_long, long, to, from)
+
+pub first_failing-failing-requires-clause-letters : goal.first_failing-failing-requires-clause-letters
+first_failing-failing-requires-clause-letters c = (c.bring_beside.ensures.spared c.args.r.now c.requires.spared).letters
+
+pub returns-then-high-known-clause-spared : goal.returns-then-high-known-clause-spared
+returns-then-high-known-clause-spared c = c.bring_beside.ensures.spared c.args.r.now c.requires.spared
+
+pub returns-then-is_between-clause-spared : goal.returns-then-is_between-clause-spared
+returns-then-is_between-clause-spared c = c.bring_beside.ensures.spared c.args.r.now c.requires.spared
 
 pub returns-then-high-known-clause-told : goal.returns-then-high-known-clause-told
 returns-then-high-known-clause-told c =
-    let s = c.args.self.now in
-    let m = c.args.m.now in
-    let y = series_of c.args.witness.now in
-    let i = c.args.k - 1 in
-    let count = c.requires.spared.count in let long = c.requires.count in let to = c.requires.to in let from = c.requires.from in
-    let inside : i < length s.cells.now = omega (arith, long, to, from) in
-    let there = entry_there s.each.items i c.index.result.now c.index.ensures (omega (arith, count, long, to, from)) in
-    let known = beside_known m c.args.r.now (length s.cells.now)
-    (get_or s.cells.now i []) i c.index.result.now c.beside-known.result c.beside-known.ensures.known
-    (c.requires.spared.each i c.index.result.now there) in
+    let to = c.requires.to in let from = c.requires.from in
     let low = c.if-known-low.true in let high = c.if-high-known.true in
-    λ t v has least greatest. known_meets m y i c.sides.result (omega (arith, to, from)) c.requires.few c.requires.cells c.sides.ensures.sides c.args.r.now
-    (get_or s.cells.now i []) c.beside-known.result c.beside-known.ensures.sides (domain_at s.cells.now i c.requires.spared.box inside) c.requires.split
-    (subst (λ n. IsKnown m c.args.r.now n (get_or s.cells.now i []) i c.beside-known.result) c.requires.count known) v has
+    λ t v has least greatest. told_known c.args.m.now c.args.r.now (series_of c.args.witness.now) c.args.self.now c.bring_beside.new.self (c.args.k - 1)
+    c.index-known.result.now c.bring_beside.ensures.same (c.bring_beside.ensures.spared c.args.r.now c.requires.spared) c.requires.count
+    (omega (arith, to, from)) c.requires.few c.requires.cells c.requires.split c.index-known.ensures c.bring_beside.ensures.here v has
     (omega (arith, ints, low, least)) (omega (arith, ints, high, greatest))
 
 pub returns-clause-told : goal.returns-clause-told
 returns-clause-told c =
-    let s = c.args.self.now in
+    let s = c.bring_beside.new.self in
     let i = c.args.k - 1 in
+    let same = c.bring_beside.ensures.same in
     let long = c.requires.count in let to = c.requires.to in let from = c.requires.from in
-    let inside : i < length s.cells.now = omega (arith, long, to, from) in
-    let domain = get_or_default s.cells.now i [] c.index-self-i.result inside in
-    λ t v has from to. subst (λ y. MeetsWith (forward_of c.args.m.now) c.args.r.now y i v) c.sides.ensures.series
+    let as_long : length s.cells.now ≡ length c.args.self.now.cells.now = ap (λ z. length z.now) same in
+    let inside : i < length s.cells.now = omega (arith, as_long, long, to, from) in
+    let domain = get_or_default s.cells.now i [] c.index-cells-i.result inside ∙ sym c.index-cells-i.is in
+    λ t v has from to. subst (λ y. MeetsWith (forward_of c.args.m.now) c.args.r.now y i v) c.bring_beside.ensures.series
     (c.first_failing-failing.ensures.none (nothing_failed c.first_failing-failing.result c.is_none.result c.is_none.ensures t) v
-    (subst (λ d. Contains d v) domain has) (subst (λ z. z ≤ℤ v) (sym (to_z-of_z w64 c.args.low c.ranges.low)) from)
-    (subst (λ z. v ≤ℤ z) (sym (to_z-of_z w64 c.args.high c.ranges.high)) to))
+    (subst (λ d. Contains d v) domain (subst (λ z. Contains (get_or z.now i []) v) (sym same) has))
+    (subst (λ z. z ≤ℤ v) (sym (to_z-of_z w64 c.args.low c.ranges.low)) from) (subst (λ z. v ≤ℤ z) (sym (to_z-of_z w64 c.args.high c.ranges.high)) to))
 
 pub returns-clause-spared : goal.returns-clause-spared
 returns-clause-spared c =
-    let s = c.args.self.now in
-    let m = c.args.m.now in
-    let r = c.args.r.now in
-    let y = series_of c.args.witness.now in
+    let s = c.bring_beside.new.self in
     let i = c.args.k - 1 in
+    let same = c.bring_beside.ensures.same in
     let low = to_z w64 (of_z w64 c.args.low) in
     let high = to_z w64 (of_z w64 c.args.high) in
-    let count = c.requires.spared.count in let long = c.requires.count in let to = c.requires.to in let from = c.requires.from in
-    let inside : i < length s.cells.now = omega (arith, long, to, from) in
-    let there = entry_there s.each.items i c.index.result.now c.index.ensures (omega (arith, count, long, to, from)) in
-    let values = get_or s.cells.now i [] in
-    let domain = get_or_default s.cells.now i [] c.index-self-i.result inside in
-    let known = beside_known m r (length s.cells.now) values i c.index.result.now c.beside-known.result c.beside-known.ensures.known
-    (c.requires.spared.each i c.index.result.now there) in
-    put_spared m r s _ i c.and_then.result refl refl c.requires.spared
-    (known_next m r (length s.cells.now) values i c.first_failing-failing.result low high c.beside-known.result c.and_then.result c.and_then.ensures.sides
-    c.and_then.ensures.least c.and_then.ensures.greatest known
-    (λ none least greatest. subst (λ n. IsKnown m r n values i c.and_then.result) (sym c.requires.count)
-    (meets_known m y i c.sides.result (omega (arith, to, from)) c.requires.few c.requires.cells c.sides.ensures.sides r values c.and_then.result
-    (c.and_then.ensures.sides ∙ c.beside-known.ensures.sides) (domain_at s.cells.now i c.requires.spared.box inside)
-    (λ v has low_v high_v. subst (λ x. MeetsWith (forward_of m) r x i v) c.sides.ensures.series
-    (c.first_failing-failing.ensures.none none v (subst (λ d. Contains d v) domain has) (subst (λ z. z ≤ℤ v) least low_v)
-    (subst (λ z. v ≤ℤ z) greatest high_v))))))
+    let long = c.requires.count in let to = c.requires.to in let from = c.requires.from in
+    let as_long : length s.cells.now ≡ length c.args.self.now.cells.now = ap (λ z. length z.now) same in
+    let inside : i < length s.cells.now = omega (arith, as_long, long, to, from) in
+    let domain = get_or_default s.cells.now i [] c.index-cells-i.result inside ∙ sym c.index-cells-i.is in
+    learnt c.args.m.now c.args.r.now (series_of c.args.witness.now) c.args.self.now s i c.index-known.result.now same
+    (c.bring_beside.ensures.spared c.args.r.now c.requires.spared) c.requires.count (omega (arith, to, from)) c.requires.few c.requires.cells
+    c.requires.split c.index-known.ensures c.bring_beside.ensures.here _ c.and_then.result c.first_failing-failing.result low high refl refl refl
+    c.and_then.ensures.sides c.and_then.ensures.least c.and_then.ensures.greatest
+    (λ none v has from to. subst (λ y. MeetsWith (forward_of c.args.m.now) c.args.r.now y i v) c.bring_beside.ensures.series
+    (c.first_failing-failing.ensures.none none v (subst (λ d. Contains d v) domain (subst (λ z. Contains (get_or z.now i []) v) (sym same) has)) from to))
+
+pub returns-clause-beside : goal.returns-clause-beside
+returns-clause-beside c =
+    let s = c.bring_beside.new.self in
+    let i = c.args.k - 1 in
+    let count = (c.bring_beside.ensures.spared c.args.r.now c.requires.spared).count in
+    let as_long : length s.cells.now ≡ length c.args.self.now.cells.now = ap (λ z. length z.now) c.bring_beside.ensures.same in
+    let long = c.requires.count in let to = c.requires.to in let from = c.requires.from in
+    learnt_beside c.args.m.now (series_of c.args.witness.now) s _ i c.index-known.result.now c.and_then.result refl refl c.and_then.ensures.time
+    c.and_then.ensures.sides
+    (entry_there s.each.items i c.index-known.result.now c.index-known.ensures (omega (arith, count, as_long, long, to, from)))
+    c.bring_beside.ensures.beside
 
 -- with what is told, the values are kept
 
