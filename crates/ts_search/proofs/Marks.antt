@@ -8,6 +8,7 @@ use Rattle.ts_base.specs.Limits.{most_cells}
 use Rattle.ts_bound.specs.Looks.{count_looked, first_looked, is_looked, last_looked, place_in}
 use Rattle.ts_bound.specs.TermSpans.{Automata, automata_of}
 use Rattle.ts_bound.proofs.Looking.{ends_inside, looked_by, looked_get, looked_length, place_bounds, place_inside}
+use Rattle.ts_domain.specs.declared.interval.Interval.{Interval}
 use Rattle.ts_domain.specs.BoxSeries.{InBox}
 use Rattle.ts_filter.specs.Boxes.{Box, HasCell, IsInside, IsPart, values_at}
 use Rattle.ts_filter.specs.KeptCells.{AreKept, AreSized, IsAliveTerm, IsSpared, forgotten, with_alive, with_known, with_spared}
@@ -24,10 +25,10 @@ use Rattle.ts_spans.specs.Machines.{automata_in, spans_in}
 use Rattle.ts_spans.proofs.OfTerms.{window_looks}
 use Rattle.ts_witness.specs.Laws.{IsKept}
 use Rattle.ts_witness.specs.Witnesses.{series_of}
-use Rattle.ts_search.proofs.Witnessed.{asked, bring_few, each_after, held_after, shown_alive}
+use Rattle.ts_search.proofs.Witnessed.{asked, bring_few, each_after, get_set, held_after, shown_alive}
 use Rattle.ts_search.specs.LineOf.{is_refuted_at, last, requirements}
 use Rattle.ts_search.specs.Posed.{IsPosed}
-use Rattle.ts_search.specs.Shown.{AreHeld, AreMarked, AreMet, AreShown, CanSpare, IsHeld, OfEach, is_shown}
+use Rattle.ts_search.specs.Shown.{AreEnds, AreHeld, AreMarked, AreMet, AreShown, CanSpare, IsEnds, IsHeld, OfEach, is_shown}
 use Rattle.ts_search.specs.Views.{search_of}
 use Rattle.ts_search.specs.declared.marked.Looked.{Looked}
 use Rattle.ts_search.specs.declared.problem.Problem.{Problem}
@@ -139,15 +140,15 @@ module _ (q : Problem) (posed : IsPosed q) (w : Witnesses) (b : Box) (part : IsP
 
     -- it is as before but for what it knows
 
-    module _ (new : Shown) (w' : Witnesses) (change : w'.each.items ≡ set w.each.items i new) (marks : w'.kept ≡ w.kept) (machine : new.machine ≡ s.machine)
-        (cells : new.spared.cells ≡ s.spared.cells) (is_held : IsHeld r new) (series : series_of new.witness ≡ series_of s.witness) (met : new.met ≡ s.met)
+    module _ (new : Shown) (w' : Witnesses) (change : w'.each.items ≡ set w.each.items i new) (marks : w'.kept ≡ w.kept) (ends : w'.ends ≡ w.ends)
+        (machine : new.machine ≡ s.machine) (cells : new.spared.cells ≡ s.spared.cells) (is_held : IsHeld r new) (series : series_of new.witness ≡ series_of s.witness) (met : new.met ≡ s.met)
       where
         in_box : InBox (series_of new.witness) (looked_at (window_of s.machine.now) b)
         in_box = subst (λ x. InBox x (looked_at (window_of s.machine.now) b)) (sym series) (shown.inside i s r there require)
 
         pub shown_after : AreShown q w' b
         shown_after = record {
-          held = held_after q posed w b part shown.held i s r there require new w' change marks machine cells is_held in_box;
+          held = held_after q posed w b part shown.held i s r there require new w' change marks ends machine cells is_held in_box;
           inside = each_after q w w' i new r (λ r s. InBox (series_of s.witness) (looked_at (window_of s.machine.now) b)) change require shown.inside
               (subst (λ z. InBox (series_of new.witness) (looked_at (window_of z.now) b)) (sym machine) in_box);
         }
@@ -234,7 +235,7 @@ can_spare q term k first a at is inside split is_first from to is_term is_cell i
 
 -- other marks, and the same witnesses
 
-module _ (q : Problem) (w w' : Witnesses) (same : w'.each.items ≡ w.each.items) where
+module _ (q : Problem) (w w' : Witnesses) (same : w'.each.items ≡ w.each.items) (long : length w'.ends.items ≡ length w.ends.items) where
   each_with_marks : (Is : Require → Shown → Type 0) → OfEach q w Is → OfEach q w' Is
   each_with_marks Is h i s r e f = h i s r (ap (λ z. slice_get z i) (sym same) ∙ e) f
 
@@ -247,6 +248,7 @@ module _ (q : Problem) (w w' : Witnesses) (same : w'.each.items ≡ w.each.items
       count = each_with_marks (λ r s. length (series_of s.witness) ≡ count_looked (window_of s.machine.now) (last (search_of q))) h.held.count;
       domains = each_with_marks (λ r s. s.spared.cells.now ≡ looked_at (window_of s.machine.now) (search_of q).model.cells) h.held.domains;
       sized = sized;
+      ends = long ∙ h.held.ends;
     };
     inside = each_with_marks (λ r s. InBox (series_of s.witness) (looked_at (window_of s.machine.now) b)) h.inside;
   }
@@ -258,33 +260,36 @@ module _ (q : Problem) (w w' : Witnesses) (same : w'.each.items ≡ w.each.items
 -- nothing is marked, then a term, then a cell
 
 module _ (q : Problem) (posed : IsPosed q) (w w' : Witnesses) (b : Box) (same : w'.each.items ≡ w.each.items) where
-  pub mark_none : w'.kept ≡ map forgotten w.kept → AreShown q w b → AreMarked q w' b
-  mark_none change h = record {
-    shown = shown_with_marks q w w' same b
+  pub mark_none : length w'.ends.items ≡ length w.ends.items → AreEnds b w'.ends.items → w'.kept ≡ map forgotten w.kept → AreShown q w b → AreMarked q w' b
+  mark_none long ends change h = record {
+    shown = shown_with_marks q w w' same long b
         (subst (AreSized (length q.model.now.terms.entries) (last (search_of q))) (sym change)
         (forgotten_sized (length q.model.now.terms.entries) (last (search_of q)) w.kept h.held.sized)) h;
     marks = subst (AreKept q.model.now.requirements.items (search_of q).spans b) (sym change)
         (forgotten_kept q.model.now.requirements.items (search_of q).spans b w.kept);
+    ends = ends;
   }
 
-  pub mark_alive : (term : ℕ) → w'.kept ≡ with_known with_alive term w.kept → IsPart b (search_of q).model.cells → AreMet q w term → AreMarked q w b →
+  pub mark_alive : (term : ℕ) → w'.ends ≡ w.ends → w'.kept ≡ with_known with_alive term w.kept → IsPart b (search_of q).model.cells → AreMet q w term → AreMarked q w b →
       AreMarked q w' b
-  mark_alive term change part met h = record {
-    shown = shown_with_marks q w w' same b
+  mark_alive term ends change part met h = record {
+    shown = shown_with_marks q w w' same (ap (λ z. length z.items) ends) b
         (subst (AreSized (length q.model.now.terms.entries) (last (search_of q))) (sym change)
         (term_sized (length q.model.now.terms.entries) (last (search_of q)) term w.kept h.shown.held.sized)) h.shown;
     marks = subst (AreKept q.model.now.requirements.items (search_of q).spans b) (sym change)
         (term_kept q.model.now.requirements.items (search_of q).spans b w.kept term h.marks (alive_term q posed w b part h.shown term met));
+    ends = subst (λ z. AreEnds b z.items) (sym ends) h.ends;
   }
 
-  pub mark_spared : (term k : ℕ) → 1 ≤ k → w'.kept ≡ with_known (with_spared k) term w.kept →
+  pub mark_spared : (term k : ℕ) → 1 ≤ k → w'.ends ≡ w.ends → w'.kept ≡ with_known (with_spared k) term w.kept →
       IsSpared q.model.now.requirements.items (search_of q).spans b term k → AreMarked q w b → AreMarked q w' b
-  mark_spared term k from change spared h = record {
-    shown = shown_with_marks q w w' same b
+  mark_spared term k from ends change spared h = record {
+    shown = shown_with_marks q w w' same (ap (λ z. length z.items) ends) b
         (subst (AreSized (length q.model.now.terms.entries) (last (search_of q))) (sym change)
         (cell_sized (length q.model.now.terms.entries) (last (search_of q)) term k w.kept h.shown.held.sized)) h.shown;
     marks = subst (AreKept q.model.now.requirements.items (search_of q).spans b) (sym change)
         (cell_kept q.model.now.requirements.items (search_of q).spans b w.kept term k from h.marks spared);
+    ends = subst (λ z. AreEnds b z.items) (sym ends) h.ends;
   }
 
 -- the requirements on a term before a place are met
@@ -308,3 +313,17 @@ all_below q w term n h few j r is on =
     let from = is.0 in
     let next : j - 1 + 1 ≡ j = omega (arith, from) in
     subst (λ z. is_shown w z ≡ true) next (h (j - 1) r (omega (arith, below, few)) is.1 on)
+
+-- the ends of the domains before a place
+
+abbrev pub AreEndsBelow : Box → List Interval → ℕ → Type 0
+AreEndsBelow b ends n = (i : ℕ) (e : Interval) → i < n → slice_get ends i ≡ Some e → IsEnds (get_or b i []) e
+
+pub ends_next : (b : Box) (old new : List Interval) (n : ℕ) (e : Interval) → AreEndsBelow b old n → new ≡ set old n e → IsEnds (get_or b n []) e →
+    AreEndsBelow b new (n + 1)
+ends_next b old new n e h change is i u below there =
+    ⊎_elim (λ same. subst (λ z. IsEnds (get_or b z []) u) (sym same.0) (subst (IsEnds (get_or b n [])) (sym same.1) is))
+    (λ other. h i u (below_split i n below other.0) other.1) (get_set old n i e u (ap (λ z. slice_get z i) (sym change) ∙ there))
+
+pub all_ends : (b : Box) (ends : List Interval) (n : ℕ) → AreEndsBelow b ends n → length ends ≤ n → AreEnds b ends
+all_ends b ends n h few i e there = let below = slice_get_within ends i e there in h i e (omega (arith, below, few)) there

@@ -91,7 +91,7 @@ module _ (q : Problem) (posed : IsPosed q) (w : Witnesses) (b : Box) (part : IsP
 
 -- one witness is changed
 
-get_set : {A : Type 0} (xs : List A) (i k : ℕ) (y s : A) → slice_get (set xs i y) k ≡ Some s →
+pub get_set : {A : Type 0} (xs : List A) (i k : ℕ) (y s : A) → slice_get (set xs i y) k ≡ Some s →
     ((k ≡ i) × (s ≡ y)) ⊎ ((k ≡ i → ⊥) × (slice_get xs k ≡ Some s))
 get_set {A} [] i k y s e = absurd (let z : ◌≡◌ {A = Option A} None (Some s) = e in cc)
 get_set (x ∷ xs) zero zero y s e = inl (refl, sym (same_Some y s e))
@@ -259,14 +259,15 @@ one_more_made q es new i s r h count change require is k t u e f =
     (get_push es k s t (ap (λ z. slice_get z k) (sym change) ∙ e))
 
 pub all_made : (q : Problem) (w : Witnesses) → length w.each.items ≤ requirements (search_of q) → AreMade q w.each.items →
-    AreSized (length q.model.now.terms.entries) (last (search_of q)) w.kept → AreHeld q w
-all_made q w few h sized = record {
+    AreSized (length q.model.now.terms.entries) (last (search_of q)) w.kept → length w.ends.items ≡ last (search_of q) → AreHeld q w
+all_made q w few h sized ends = record {
   few = few;
   machine = λ i s r e f. (h i s r e f).machine;
   each = λ i s r e f. (h i s r e f).held;
   count = λ i s r e f. (h i s r e f).count;
   domains = λ i s r e f. (h i s r e f).domains;
   sized = sized;
+  ends = ends;
 }
 
 -- a cell that a machine looks at, from the first of them on
@@ -352,8 +353,8 @@ module _ (q : Problem) (posed : IsPosed q) (w : Witnesses) (b : Box) (part : IsP
   bring_count =
       held.count i s r there require ∙ ap (count_looked (window_of s.machine.now)) (sym size) ∙ sym (looked_length (window_of s.machine.now) b bring_looks)
 
-  module _ (new : Shown) (w' : Witnesses) (change : w'.each.items ≡ set w.each.items i new) (marks : w'.kept ≡ w.kept) (machine : new.machine ≡ s.machine)
-      (cells : new.spared.cells ≡ s.spared.cells) (is_held : IsHeld r new)
+  module _ (new : Shown) (w' : Witnesses) (change : w'.each.items ≡ set w.each.items i new) (marks : w'.kept ≡ w.kept) (ends : w'.ends ≡ w.ends)
+      (machine : new.machine ≡ s.machine) (cells : new.spared.cells ≡ s.spared.cells) (is_held : IsHeld r new)
       (inside : InBox (series_of new.witness) (looked_at (window_of s.machine.now) b)) where
     pub held_after : AreHeld q w'
     held_after =
@@ -371,6 +372,7 @@ module _ (q : Problem) (posed : IsPosed q) (w : Witnesses) (b : Box) (part : IsP
               held.domains
               (ap (λ z. z.now) cells ∙ held.domains i s r there require ∙ ap (λ z. looked_at (window_of z.now) (search_of q).model.cells) (sym machine));
           sized = subst (AreSized (length q.model.now.terms.entries) (last (search_of q))) (sym marks) held.sized;
+          ends = ap (λ z. length z.items) ends ∙ held.ends;
         }
 
     pub inside_after : InsideUpTo q w b i → InsideUpTo q w' b (i + 1)

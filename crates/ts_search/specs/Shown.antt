@@ -1,10 +1,11 @@
 -- Witnesses of a problem's requirements, and the box that their series lie in.
-use Rattle.std.specs.Prelude.{◌≡◌, ℕ, ◌-◌, ◌≤◌, ℤ, Bool, false, true, List, [], Contains, IsSome, IsTrue, Some, length}
+use Rattle.std.specs.Prelude.{◌≡◌, ℕ, ◌-◌, ◌≤◌, ◌≤ℤ◌, ℤ, Bool, false, true, List, [], Contains, IsSome, IsTrue, Some, get_or, length}
 use Rattle.std.specs.Prelude.{option_map, replicate, set, slice_get, unwrap_or}
 use Rattle.ts_automaton.specs.AutomatonRun.{AreCellValues}
 use Rattle.ts_base.specs.Windows.{looked_at}
 use Rattle.ts_bound.specs.Looks.{count_looked, is_looked, place_in}
 use Rattle.ts_bound.specs.TermSpans.{Automata, automata_of}
+use Rattle.ts_domain.specs.declared.interval.Interval.{Interval}
 use Rattle.ts_domain.specs.BoxSeries.{InBox}
 use Rattle.ts_filter.specs.Boxes.{Box}
 use Rattle.ts_filter.specs.KeptCells.{AreKept, AreSized, unknown}
@@ -42,8 +43,17 @@ OfEach q w Is =
     (i : ℕ) (s : Shown) (r : Require) → slice_get w.each.items i ≡ Some s →
     slice_get q.model.now.requirements.items i ≡ Some r → Is r s
 
+-- the least and the greatest of these values
+pub record IsEnds (values : List ℤ) (e : Interval) : Type 0 where
+  pub low : Contains values e.low
+  pub all : (v : ℤ) → Contains values v → (e.low ≤ℤ v) × (v ≤ℤ e.high)
+
+-- they are so of each domain
+abbrev pub AreEnds : Box → List Interval → Type 0
+AreEnds b ends = (i : ℕ) (e : Interval) → slice_get ends i ≡ Some e → IsEnds (get_or b i []) e
+
 -- each is of the machine of the requirement's term, over the model's cells that it looks at; what is marked fits the
--- model
+-- model, and there are ends for each cell
 pub record AreHeld (q : Problem) (w : Witnesses) : Type 0 where
   pub few : length w.each.items ≤ requirements (search_of q)
   pub machine : OfEach q w
@@ -54,6 +64,7 @@ pub record AreHeld (q : Problem) (w : Witnesses) : Type 0 where
   pub domains : OfEach q w
       (λ r s. s.spared.cells.now ≡ looked_at (window_of s.machine.now) (search_of q).model.cells)
   pub sized : AreSized (length q.model.now.terms.entries) (last (search_of q)) w.kept
+  pub ends : length w.ends.items ≡ last (search_of q)
 
 -- the witnesses belong to the problem, and the series of each lies in the box, in the cells that its machine looks at
 pub record AreShown (q : Problem) (w : Witnesses) (b : Box) : Type 0 where
@@ -64,10 +75,11 @@ pub record AreShown (q : Problem) (w : Witnesses) (b : Box) : Type 0 where
 abbrev pub is_shown : Witnesses → ℕ → Bool
 is_shown w j = unwrap_or (option_map (λ (s : Shown). s.met) (slice_get w.each.items (j - 1))) false
 
--- each series is one of the box, and what is marked of terms and cells is so there
+-- each series is one of the box, what is marked of terms and cells is so there, and its domains have these ends
 pub record AreMarked (q : Problem) (w : Witnesses) (b : Box) : Type 0 where
   pub shown : AreShown q w b
   pub marks : AreKept q.model.now.requirements.items (search_of q).spans b w.kept
+  pub ends : AreEnds b w.ends.items
 
 -- the requirement at the place i, counted from 0, is on the term
 pub record IsOn (q : Problem) (term i : ℕ) : Type 0 where

@@ -7,7 +7,7 @@ ghost use Rattle.ts_filter.specs.KeptCells.{IsSpared};
 ghost use Rattle.ts_filter.specs.RefutedWorseDrop.{IsDrop};
 ghost use Rattle.ts_model.specs.declared.model.Require.{Require};
 ghost use Rattle.ts_search.specs.Posed.{IsPosed};
-ghost use Rattle.ts_search.specs.Shown.{AreMarked, AreMet, AreShown, CanSpare, IsOn};
+ghost use Rattle.ts_search.specs.Shown.{AreEnds, AreMarked, AreMet, AreShown, CanSpare, IsEnds, IsOn};
 ghost use Rattle.ts_search.specs.Views.{search_of};
 
 use crate::problem::Problem;
@@ -33,6 +33,7 @@ impl<'a> Witnesses<'a> {
         ensures { AreMarked problem.now self.new cells.now.present }
     {
         self.kept.forget();
+        note_ends(&mut self.ends, cells);
         for term in 0..problem.model.terms.len() {
             self.mark_term(problem, term as u32, cells);
         }
@@ -89,30 +90,32 @@ impl<'a> Witnesses<'a> {
         ensures marked { AreMarked problem.now self.new cells.now.present }
         ensures met { AreMet problem.now self.new at.term }
     {
-        if cells.cell(at.cell).is_single() {
+        let values = self.ends[at.cell as usize - 1];
+        if values.low == values.high {
             return;
         }
-        if self.spares(problem, at, cells) {
+        if self.spares(problem, at, values, cells) {
             self.kept.keep_cell(at.term as usize, at.cell);
         }
     }
 
     /// Whether no requirement on a term, all of which are met, drops a value of the cell, as far as their witnesses
-    /// show.
-    fn spares(&mut self, problem: &Problem<'_>, at: Looked, cells: &Boxed) -> bool
+    /// show. Its domain has these ends.
+    fn spares(&mut self, problem: &Problem<'_>, at: Looked, values: Interval, cells: &Boxed) -> bool
         requires posed { IsPosed problem.now }
         requires part { IsPart cells.now.present (search_of problem.now).model.cells }
         requires shown { AreShown problem.now self.old cells.now.present }
         requires cell { IsCell at.cell cells.now }
         requires met { AreMet problem.now self.old at.term }
         requires spare { CanSpare problem.now at }
+        requires ends { IsEnds (values_at at.cell cells.now.present) values }
         ensures shown { AreShown problem.now self.new cells.now.present }
         ensures met { AreMet problem.now self.new at.term }
         ensures same { self.new.kept ≡ self.old.kept }
+        ensures same_ends { self.new.ends ≡ self.old.ends }
         ensures spared { IsTrue result → IsSpared problem.now.model.now.requirements.items
             (search_of problem.now).spans cells.now.present at.term at.cell }
     {
-        let values = cells.cell(at.cell).ends();
         for i in 0..problem.model.requirements.len() {
             if !self.spares_one(problem, i, at, values, cells) {
                 return false;
@@ -121,8 +124,8 @@ impl<'a> Witnesses<'a> {
         true
     }
 
-    /// Whether the requirement at place `i`, counted from 0, drops no value of the cell, all of which are in `values`,
-    /// or is on another term.
+    /// Whether the requirement at place `i`, counted from 0, drops no value of the cell, whose domain has these ends, or
+    /// is on another term.
     fn spares_one(
         &mut self,
         problem: &Problem<'_>,
@@ -138,12 +141,11 @@ impl<'a> Witnesses<'a> {
         requires cell { IsCell at.cell cells.now }
         requires met { AreMet problem.now self.old at.term }
         requires spare { CanSpare problem.now at }
-        requires low { Contains (values_at at.cell cells.now.present) values.low }
-        requires ends { (v : ℤ) → Contains (values_at at.cell cells.now.present) v →
-            (values.low ≤ℤ v) × (v ≤ℤ values.high) }
+        requires ends { IsEnds (values_at at.cell cells.now.present) values }
         ensures shown { AreShown problem.now self.new cells.now.present }
         ensures met { AreMet problem.now self.new at.term }
         ensures same { self.new.kept ≡ self.old.kept }
+        ensures same_ends { self.new.ends ≡ self.old.ends }
         ensures spared { IsTrue result → (r : Require) →
             slice_get problem.now.model.now.requirements.items i ≡ Some r → r.term ≡ at.term → (v : ℤ) →
             IsDrop problem.now.model.now.requirements.items (search_of problem.now).spans at.cell v (i + 1)
@@ -167,4 +169,15 @@ fn first_on(problem: &Problem<'_>, term: u32) -> Option<usize>
         }
     }
     None
+}
+
+/// Notes the ends of each domain of the box.
+fn note_ends(ends: &mut Vec<Interval>, cells: &Boxed)
+    requires { length ends.old.items ≡ length cells.now.present }
+    ensures count { length ends.new.items ≡ length cells.now.present }
+    ensures ends { AreEnds cells.now.present ends.new.items }
+{
+    for k in 0..cells.cells() {
+        ends[k as usize] = cells.cell(k + 1).ends();
+    }
 }

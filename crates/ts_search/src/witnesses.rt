@@ -16,16 +16,17 @@ use crate::problem::Problem;
 use crate::shown::Shown;
 use std::alloc::Global;
 use ts_base::Memory;
-use ts_domain::Boxed;
+use ts_domain::{Boxed, Interval};
 use ts_filter::KeptCells;
 use ts_glue::Machine;
 
 /// The witnesses of the first requirements, in their order; the others have none. What they show of drops is marked in
-/// `kept`, term by term.
+/// `kept`, term by term. Of the box that is marked, `ends` has the ends of each domain.
 #[derive(Drop)]
 pub(crate) struct Witnesses<'a> {
     pub(crate) each: Vec<Shown<'a>>,
     pub(crate) kept: KeptCells,
+    pub(crate) ends: Vec<Interval>,
 }
 
 impl<'a> Witnesses<'a> {
@@ -40,6 +41,7 @@ impl<'a> Witnesses<'a> {
         ensures { IfOk result (λ w. AreHeld problem.now w) }
     {
         let kept = unmarked(alloc, problem)?;
+        let ends = room_for_ends(alloc, problem)?;
         let model = problem.model;
         let mut each = Vec::new(alloc);
         for i in 0..model.requirements.len() {
@@ -47,7 +49,7 @@ impl<'a> Witnesses<'a> {
             let m = &machines[r.term as usize];
             each.push(Shown::new(alloc, m, &model.cells)?)?;
         }
-        Ok(Witnesses { each, kept })
+        Ok(Witnesses { each, kept, ends })
     }
 
     /// Brings all of them into the box. Nothing is allocated.
@@ -80,4 +82,12 @@ fn unmarked(alloc: Global, problem: &Problem<'_>) -> Result<KeptCells, Memory>
 {
     let model = problem.model;
     KeptCells::new(alloc, model.terms.len(), model.cells.len())
+}
+
+/// A place for the ends of each domain.
+fn room_for_ends(alloc: Global, problem: &Problem<'_>) -> Result<Vec<Interval>, Memory>
+    ensures { IfOk result (λ ends. length ends.items ≡ last (search_of problem.now)) }
+{
+    let none = Interval { low: 0, high: 0 };
+    Ok(vec![in alloc; none; problem.model.cells.len()]?)
 }

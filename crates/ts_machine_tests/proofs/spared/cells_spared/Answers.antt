@@ -1,4 +1,5 @@
-use Rattle.std.proofs.Common.{◌∙◌, arith}
+use Rattle.std.proofs.Common.{◌∙◌, sym, subst, arith}
+use Rattle.ts_witness.specs.KnownValues.{AreBeside}
 use Rattle.ts_machine_tests.proofs.spared.cells_spared.Goals as goal
 
 pub loop-k-init : goal.loop-k-init
@@ -7,5 +8,10 @@ loop-k-init c = record {
   series = c.holds.ensures.series ∙ c.in_ok-witness.ensures.series;
   cells = c.in_ok-spared.ensures.cells;
   spared = c.in_ok-spared.ensures.spared c.args.r.now;
+  beside = c.in_ok-spared.ensures.beside c.args.series.items;
   few = omega arith;
 }
+
+pub keeps_between-keeps-requires-clause-beside : goal.keeps_between-keeps-requires-clause-beside
+keeps_between-keeps-requires-clause-beside c =
+    subst (λ y. AreBeside c.args.m.now y c.loop-k.spared) (sym c.loop-k.invariant.series) c.loop-k.invariant.beside

@@ -74,12 +74,12 @@ loop-i-preserved c =
     let below = c.loop-i-test.true in let end = c.len-i-end.ensures in let same = c.loop-i.invariant.count in let few = c.loop-i.invariant.held.few in
     let require = found q.model.now.requirements.items i r c.index-r.ensures (omega (arith, below, end, same, few, count)) in
     let there = found w.each.items i s c.index_mut.ensures.value (omega (arith, below, end, same, count)) in
-    let after : Witnesses = record { each = with_item w.each i c.bring.new.self; kept = w.kept } in
+    let after : Witnesses = record { each = with_item w.each i c.bring.new.self; kept = w.kept; ends = w.ends } in
     record {
       count = length-set w.each.items i c.bring.new.self ∙ c.loop-i.invariant.count;
-      held = held_after q c.requires.posed w b c.requires.part c.loop-i.invariant.held i s r there require c.bring.new.self after refl refl c.bring.ensures.machine
+      held = held_after q c.requires.posed w b c.requires.part c.loop-i.invariant.held i s r there require c.bring.new.self after refl refl refl c.bring.ensures.machine
           c.bring.ensures.cells c.bring.ensures.held c.bring.ensures.inside;
-      inside = inside_after q c.requires.posed w b c.requires.part c.loop-i.invariant.held i s r there require c.bring.new.self after refl refl
+      inside = inside_after q c.requires.posed w b c.requires.part c.loop-i.invariant.held i s r there require c.bring.new.self after refl refl refl
           c.bring.ensures.machine c.bring.ensures.cells c.bring.ensures.held c.bring.ensures.inside c.loop-i.invariant.inside;
     }
 

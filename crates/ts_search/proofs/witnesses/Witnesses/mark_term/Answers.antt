@@ -41,10 +41,10 @@ pub loop-cell-init : goal.loop-cell-init
 loop-cell-init c =
     let q = c.args.problem.now in let w = c.args.self.now in let b = c.args.cells.now.present in
     let met = c.all_met.ensures c.if-not-all_met.false in
-    let after : Witnesses = record { each = w.each; kept = c.keep_term.new.self } in
+    let after : Witnesses = record { each = w.each; kept = c.keep_term.new.self; ends = w.ends } in
     record {
-      marked = mark_alive q c.requires.posed w after b refl c.args.term c.keep_term.ensures c.requires.part met c.requires.marked;
-      met = met_with_marks q w after refl c.args.term met;
+      marked = mark_alive q c.requires.posed w after b refl c.args.term refl c.keep_term.ensures c.requires.part met c.requires.marked;
+      met = met_with_marks q w after refl refl c.args.term met;
       from = omega arith;
     }
 

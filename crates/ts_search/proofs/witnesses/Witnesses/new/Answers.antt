@@ -40,4 +40,4 @@ returns c =
     let q = c.args.problem.now in
     let count : vec_len q.model.now.requirements ≡ length q.model.now.requirements.items = search rules in
     let end = c.len-i-end.ensures in let to = c.loop-i.auto.i-end in let same = c.loop-i.invariant.count in
-    all_made q _ (omega (arith, end, to, same, count)) c.loop-i.invariant.made (unmarked_sized q c.in_ok-kept.kept c.in_ok-kept.ensures)
+    all_made q _ (omega (arith, end, to, same, count)) c.loop-i.invariant.made (unmarked_sized q c.in_ok-kept.kept c.in_ok-kept.ensures) c.in_ok-ends.ensures

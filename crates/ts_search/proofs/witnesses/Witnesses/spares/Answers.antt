@@ -7,6 +7,7 @@ loop-i-preserved c = record {
   shown = c.spares_one.ensures.shown;
   met = c.spares_one.ensures.met;
   same = c.spares_one.ensures.same ∙ c.loop-i.invariant.same;
+  same_ends = c.spares_one.ensures.same_ends ∙ c.loop-i.invariant.same_ends;
   spared = spared_next c.args.problem.now c.args.cells.now.present c.args.at c.loop-i.i c.loop-i.invariant.spared
       (c.spares_one.ensures.spared c.if-not-spares_one.false);
 }

@@ -9,5 +9,6 @@ invariant-loop-i l = record {
   shown : AreShown l.problem l.self l.cells.present;
   met : AreMet l.problem l.self l.at.term;
   same : l.self.kept ≡ l.fn.self.kept;
+  same_ends : l.self.ends ≡ l.fn.self.ends;
   spared : SparedBelow l.problem l.cells.present l.at l.i;
 }

@@ -89,7 +89,7 @@ spares-requires-clause-there c =
     let there = found w.each.items c.args.i s c.index_mut.ensures.value (slice_get_within w.each.items c.args.i some.0 some.1) in
     value_known q c.requires.posed w b c.requires.part c.requires.shown c.args.i s r there is c.args.at c.if-r-at.false c.requires.spare c.requires.cell
     (to_z w64 (of_z w64 c.args.values.low))
-    (subst (Contains (values_at c.args.at.cell b)) (sym (to_z-of_z w64 c.args.values.low (search rules))) c.requires.low)
+    (subst (Contains (values_at c.args.at.cell b)) (sym (to_z-of_z w64 c.args.values.low (search rules))) c.requires.ends.low)
 
 pub returns-clause-shown : goal.returns-clause-shown
 returns-clause-shown c =
@@ -100,7 +100,7 @@ returns-clause-shown c =
     let s = c.index_mut.result.now in
     let there = found w.each.items c.args.i s c.index_mut.ensures.value (slice_get_within w.each.items c.args.i some.0 some.1) in
     shown_after q c.requires.posed w b c.requires.part c.requires.shown c.args.i s r there is c.args.at c.if-r-at.false c.requires.spare c.requires.cell
-    c.spares.new.self _ refl refl c.spares.ensures.machine c.spares.ensures.cells c.spares.ensures.held c.spares.ensures.series c.spares.ensures.met
+    c.spares.new.self _ refl refl refl c.spares.ensures.machine c.spares.ensures.cells c.spares.ensures.held c.spares.ensures.series c.spares.ensures.met
 
 pub returns-clause-met : goal.returns-clause-met
 returns-clause-met c =
@@ -110,9 +110,9 @@ returns-clause-met c =
     let some = met_there q c.requires.posed w b c.requires.part c.requires.shown c.args.at.term c.args.i r c.requires.met is c.if-r-at.false in
     let s = c.index_mut.result.now in
     let there = found w.each.items c.args.i s c.index_mut.ensures.value (slice_get_within w.each.items c.args.i some.0 some.1) in
-    let after : Witnesses = record { each = with_item w.each c.args.i c.spares.new.self; kept = w.kept } in
+    let after : Witnesses = record { each = with_item w.each c.args.i c.spares.new.self; kept = w.kept; ends = w.ends } in
     met_after q c.requires.posed w b c.requires.part c.requires.shown c.args.i s r there is c.args.at c.if-r-at.false c.requires.spare c.requires.cell
-    c.spares.new.self after refl refl c.spares.ensures.machine c.spares.ensures.cells c.spares.ensures.held c.spares.ensures.series c.spares.ensures.met
+    c.spares.new.self after refl refl refl c.spares.ensures.machine c.spares.ensures.cells c.spares.ensures.held c.spares.ensures.series c.spares.ensures.met
     c.args.at.term c.requires.met
 
 pub returns-clause-spared : goal.returns-clause-spared
@@ -125,6 +125,6 @@ returns-clause-spared c =
     let there = found w.each.items c.args.i s c.index_mut.ensures.value (slice_get_within w.each.items c.args.i some.0 some.1) in
     λ t u require on v.
     spared_there q c.requires.posed w b c.requires.part c.requires.shown c.args.i s r there is c.args.at c.if-r-at.false c.requires.spare c.requires.cell
-    c.args.values.low c.args.values.high c.requires.ends
+    c.args.values.low c.args.values.high c.requires.ends.all
     (λ v has low high. c.spares.ensures.kept t v has (subst (λ z. z ≤ℤ v) (sym (to_z-of_z w64 c.args.values.low (search rules))) low)
     (subst (λ z. v ≤ℤ z) (sym (to_z-of_z w64 c.args.values.high (search rules))) high)) v
