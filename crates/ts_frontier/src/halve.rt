@@ -1,6 +1,6 @@
 //! Where a box is split, and the series of a box of one.
 
-ghost use Rattle.std.specs.Prelude.{◌≡◌, MatchOption, IfOk};
+ghost use Rattle.std.specs.Prelude.{◌≡◌, ◌≤◌, ◌-◌, IfOk, MatchOption, take};
 ghost use Rattle.ts_domain.specs.Values.{IsDomain};
 ghost use Rattle.ts_filter.specs.Boxes.{box_of};
 ghost use Rattle.ts_frontier.specs.Forms.{form, form_seen};
@@ -39,7 +39,17 @@ pub fn form_of(alloc: Global, b: &Boxed) -> Result<Form, Memory>
 pub fn first_halving(b: &Boxed) -> Option<Halving>
     ensures { MatchOption result (IsSingle b.now.present) (λ h. IsHalving h.cell h.at b.now.present) }
 {
-    for i in 0..b.cells() {
+    halving_from(b, 1)
+}
+
+/// The first cell with two or more values, and the lower middle one of them; none where each cell has one value. Each
+/// cell before cell `k`, counted from 1, has one value: these aren't looked at.
+pub fn halving_from(b: &Boxed, k: u32) -> Option<Halving>
+    requires from { 1 ≤ k }
+    requires before { IsSingle (take (k - 1) b.now.present) }
+    ensures { MatchOption result (IsSingle b.now.present) (λ h. IsHalving h.cell h.at b.now.present) }
+{
+    for i in k - 1..b.cells() {
         let domain = b.cell(i + 1);
         if !domain.is_single() {
             return Some(Halving {

@@ -17,8 +17,8 @@
 //! After want of memory nothing has changed.
 //!
 //! However many lines are followed, few boxes wait: by the law `few_wait` at most one more than the values of all cells
-//! of the first box, less its cells. [`first_halving`] says where a box is split; [`form_of`] tells that, or
-//! the one series of a box of one.
+//! of the first box, less its cells. [`first_halving`] says where a box is split, as does [`halving_from`], where it is
+//! known of the first cells that they have one value; [`form_of`] tells that, or the one series of a box of one.
 //!
 //! ```text
 //! let mut frontier = Frontier::new(alloc, cells);
@@ -35,5 +35,5 @@ pub mod laws;
 mod lines;
 
 pub use frontier::Frontier;
-pub use halve::{Form, Halving, first_halving, form_of};
+pub use halve::{Form, Halving, first_halving, form_of, halving_from};
 pub use lines::follow;

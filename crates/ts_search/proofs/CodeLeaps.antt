@@ -1,13 +1,14 @@
--- A leap as the code makes it: the box below, the values that are taken away, and where it ends.
-use Rattle.std.proofs.Common.{◌≡◌, ◌⊎◌, ℕ, zero, suc, ◌+◌, ◌-◌, ◌/◌, ◌<◌, ◌≤◌, ℤ, ◌<ℤ◌, Bool, false, List, [], ◌∷◌, length, get_or, set, Option, Some, None, slice_get, refl, sym, ◌∙◌, ap, subst, inl, inr, ⊎_elim, arith, ◌↔◌}
+-- A leap as the code makes it: the boxes below on the trail, the values that are taken away, and where it ends.
+use Rattle.std.proofs.Common.{◌≡◌, ◌⊎◌, ℕ, zero, suc, ◌+◌, ◌-◌, ◌/◌, ◌<◌, ◌≤◌, ℤ, ◌<ℤ◌, Bool, false, List, [], ◌∷◌, length, get_or, set, take, Option, Some, None, slice_get, refl, sym, ◌∙◌, ap, subst, inl, inr, ⊎_elim, arith, ◌↔◌}
 use Rattle.std.proofs.lemmas.Bool.{false_from_ne_true}
-use Rattle.std.proofs.lemmas.List.{length-set}
+use Rattle.std.proofs.lemmas.List.{get_or-take, get_or_append_left, length-set, length-take-le, length_push, take-set, take_more}
 use Rattle.std.proofs.lemmas.Option.{slice_get-get_or, slice_get_within}
-use Rattle.std.specs.Prelude.{Contains, IsTrue, MatchOption, int_lt}
+use Rattle.std.proofs.Math.Seq.{get_or-append_seam}
+use Rattle.std.specs.Prelude.{Contains, IsTrue, int_lt}
 use Rattle.ts_bound.specs.TermSpans.{Automata, term_span}
 use Rattle.ts_certificate.specs.declared.certificate.TreeLine.{TreeLine}
 use Rattle.ts_certificate.specs.declared.certificate.TreeLine.TheVariants.{Split}
-use Rattle.ts_domain.specs.BoxSeries.{IsBox}
+use Rattle.ts_domain.specs.BoxSeries.{Boxes, IsBox, all_boxes, back_to}
 use Rattle.ts_domain.specs.Kept.{values_up_to}
 use Rattle.ts_domain.proofs.BoxLaws.{contains_above}
 use Rattle.ts_domain.proofs.Sets.{lt_true}
@@ -16,17 +17,18 @@ use Rattle.ts_filter.specs.Excluded.{Refutes}
 use Rattle.ts_filter.specs.RefutedWorseDrop.{IsRefuted}
 use Rattle.ts_filter.proofs.BoxParts.{part_self}
 use Rattle.ts_filter.proofs.SoundLaws.{clash}
-use Rattle.ts_frontier.specs.declared.halve.Halving.{Halving}
 use Rattle.ts_frontier.specs.Forms.{Wide, form}
 use Rattle.ts_frontier.specs.Halve.{IsHalving, IsSingle}
-use Rattle.ts_frontier.proofs.Halves.{halving_form, single_form}
+use Rattle.ts_frontier.proofs.Halves.{halving_form}
 use Rattle.ts_model.specs.declared.model.Require.{Require}
 use Rattle.ts_model.specs.Views.{model_parts}
 use Rattle.ts_spans.specs.Machines.{automata_in}
-use Rattle.ts_search.specs.Leaps.{AreSplits, AreTried, ExcludesInside, SplitsIt, TakesFreeValues, after_splits, lower}
+use Rattle.ts_search.specs.Leaps.{AreSplits, AreTried, ExcludesInside, LeadDown, SplitsIt, TakesFreeValues, after_splits, lower}
 use Rattle.ts_search.specs.LineOf.{Search, Sought, is_refuted_at, line_of, requirements, search_in}
-use Rattle.ts_search.specs.Views.{search_of}
+use Rattle.ts_search.specs.Views.{problem_of, search_of, sought_of}
 use Rattle.ts_search.specs.declared.problem.Problem.{Problem}
+use Rattle.ts_search.specs.declared.seeking.Seeking.{Seeking}
+use Rattle.ts_search.specs.declared.seeking.Seeking.TheVariants.{Best as SeeksBest, First as SeeksFirst}
 use Rattle.ts_search.proofs.CallLaws.{refuted_is, to_machine}
 use Rattle.ts_search.proofs.Known.{from_refuted, to_refuted}
 use Rattle.ts_search.proofs.Leaps.{after_more, after_part, leap_splits, splits_it, tried_less, tried_more}
@@ -34,6 +36,12 @@ use Rattle.ts_search.proofs.Parts.{wide_split}
 
 one_more : (n : ℕ) → suc n ≡ n + 1
 one_more n = omega arith
+
+which : (i n : ℕ) → i < n + 1 → (i ≡ n) ⊎ (i < n)
+which zero zero h = inl refl
+which zero (suc n) h = inr (omega arith)
+which (suc i) zero h = absurd (omega (arith, h))
+which (suc i) (suc n) h = ⊎_elim (λ e. inl (ap suc e)) (λ l. inr (omega (arith, l))) (which i n (omega (arith, h)))
 
 -- one split further down
 
@@ -46,12 +54,6 @@ module _ (b e : Box) (n : ℕ) (is : e ≡ after_splits n b) where
   next_below new k t told same h low =
       low ∙ ap (λ z. set e (k - 1) (values_up_to z (get_or e (k - 1) []))) same ∙ sym (below_is ∙ ap (lower e) (halving_form e k t h))
 
-  pub still_below : IsSingle e → e ≡ after_splits (n + 1) b
-  still_below single = let f = single_form e single in sym (below_is ∙ ap (lower e) f.1)
-
-  pub box_below : IsBox b → IsBox e
-  box_below box = subst IsBox (sym is) (after_part b n b (part_self b box)).box
-
   pub part_below : (cells : Box) → IsPart b cells → IsPart e cells
   part_below cells part = subst (λ z. IsPart z cells) (sym is) (after_part cells n b part)
 
@@ -60,26 +62,74 @@ module _ (b e : Box) (n : ℕ) (is : e ≡ after_splits n b) where
       subst (λ m. AreTried s m b) (one_more n)
       (tried_more s n b tried (subst (λ z. TakesFreeValues s z (form z)) is (subst (TakesFreeValues s e) (sym (halving_form e k t h)) takes)))
 
+-- the cells before the one that is split stay as they are
+pub single_before : (e new : Box) (k : ℕ) (t told : ℤ) → IsHalving k t e → new ≡ set e (k - 1) (values_up_to told (get_or e (k - 1) [])) →
+    IsSingle (take (k - 1) new)
+single_before e new k t told h low =
+    subst (λ z. IsSingle z) (sym (ap (take (k - 1)) low ∙ take-set e (k - 1) (values_up_to told (get_or e (k - 1) [])))) h.before
+
+-- the boxes of the trail
+
+trail_size : (w : Boxes) → length (all_boxes w) ≡ length w.earlier + 1
+trail_size w = length_push w.earlier w.present
+
+pub down_first : (w : Boxes) → w.earlier ≡ [] → LeadDown w.present w
+down_first w none = subst (λ e. LeadDown w.present (record { earlier = e; present = w.present })) (sym none) one
+  where
+    one : LeadDown w.present (record { earlier = []; present = w.present })
+    one zero h = refl
+    one (suc i) h = absurd (omega (arith, h))
+
+module _ (b : Box) (w : Boxes) (down : LeadDown b w) where
+  pub lowest : (n : ℕ) → length w.earlier ≡ n → w.present ≡ after_splits n b
+  lowest n size =
+      sym (get_or-append_seam w.earlier w.present [] []) ∙ down (length w.earlier) (omega arith) ∙ ap (λ m. after_splits m b) size
+
+  -- one split further down
+  module _ (new : Boxes) (is : new.earlier ≡ all_boxes w) where
+    pub longer : (n : ℕ) → length w.earlier ≡ n → length new.earlier ≡ n + 1
+    longer n size = ap length is ∙ trail_size w ∙ ap (λ m. m + 1) size
+
+    pub down_next : (n : ℕ) → length w.earlier ≡ n → new.present ≡ after_splits (n + 1) b → LeadDown b new
+    down_next n size at i h = ⊎_elim here further_up (which i (n + 1) (let more = longer n size in omega (arith, h, more)))
+      where
+        here : i ≡ n + 1 → get_or (all_boxes new) i [] ≡ after_splits i b
+        here same =
+            ap (λ j. get_or (all_boxes new) j []) (same ∙ sym (longer n size)) ∙ get_or-append_seam new.earlier new.present [] [] ∙ at
+            ∙ ap (λ m. after_splits m b) (sym same)
+
+        further_up : i < n + 1 → get_or (all_boxes new) i [] ≡ after_splits i b
+        further_up below =
+            let more = longer n size in
+            get_or_append_left new.earlier (new.present ∷ []) [] i (omega (arith, below, more)) ∙ ap (λ l. get_or l i []) is
+            ∙ down i (omega (arith, below, size))
+
+  -- back to a box further up
+  module _ (new : Boxes) (n : ℕ) (there : n ≤ length w.earlier) (is : new ≡ back_to n w) where
+    pub back_there : new.present ≡ after_splits n b
+    back_there = ap (λ z. z.present) is ∙ down n there
+
+    pub shorter : length new.earlier ≡ n
+    shorter = ap (λ z. length z.earlier) is ∙ length-take-le n (all_boxes w) (let all = trail_size w in omega (arith, there, all))
+
+    pub down_back : LeadDown b new
+    down_back i h =
+        let all = trail_size w in let size = shorter in
+        ap (λ z. get_or (all_boxes z) i []) is
+        ∙ ap (λ l. get_or l i []) (sym (take_more (all_boxes w) n [] (omega (arith, there, all))))
+        ∙ get_or-take (n + 1) (all_boxes w) i [] (omega (arith, h, size))
+        ∙ down i (omega (arith, h, size, there))
+
+-- what a split leaves of its cell
 pub low_stays : (e : Box) (k : ℕ) (t told : ℤ) → told ≡ t → IsBox e → IsHalving k t e → values_up_to told (values_at k e) ≡ [] → ⊥
 low_stays e k t told same box h =
     subst (λ z. values_up_to z (values_at k e) ≡ [] → ⊥) (sym same) (wide_split e e k t (part_self e box) (halving_form e k t h)).below
-
--- where no cell has a choice
-pub none_single : (e : Box) (o : Option Halving) → MatchOption o (IsSingle e) (λ h. IsHalving h.cell h.at e) → ((h : Halving) → o ≡ Some h → ⊥) → IsSingle e
-none_single e None told never = told
-none_single e (Some h) told never = absurd (never h refl)
 
 -- with the values so far no requirement is refuted
 
 abbrev pub AreFreeUpTo : Search → Box → ℕ → ℤ → ℕ → Type 0
 AreFreeUpTo s b k t n =
     (i : ℕ) (v : ℤ) (j : ℕ) → i < n → slice_get (values_at k b) i ≡ Some v → t <ℤ v → IsRefuted s.model.requirements s.spans j k (only k v b) → ⊥
-
-which : (i n : ℕ) → i < n + 1 → (i ≡ n) ⊎ (i < n)
-which zero zero h = inl refl
-which zero (suc n) h = inr (omega arith)
-which (suc i) zero h = absurd (omega (arith, h))
-which (suc i) (suc n) h = ⊎_elim (λ e. inl (ap suc e)) (λ l. inr (omega (arith, l))) (which i n (omega (arith, h)))
 
 pub free_next : (s : Search) (b : Box) (k : ℕ) (t : ℤ) (n : ℕ) (v : ℤ) → slice_get (values_at k b) n ≡ Some v →
     (t <ℤ v → (j : ℕ) → IsRefuted s.model.requirements s.spans j k (only k v b) → ⊥) → AreFreeUpTo s b k t n → AreFreeUpTo s b k t (n + 1)
@@ -166,3 +216,14 @@ leap_done q x n b e part tried is l k t line split =
   where
     splits : Box → Type 0
     splits z = SplitsIt (line_of q z) (form z)
+
+-- of what the code seeks
+pub search_is : (s : Seeking) → search_in (sought_of s) ≡ search_of (problem_of s)
+search_is (SeeksBest c found) = refl
+search_is (SeeksFirst q) = refl
+
+pub leap_sought : (s : Seeking) → ExcludesInside (sought_of s) → (n : ℕ) (b e : Box) → IsPart b (search_of (problem_of s)).model.cells →
+    AreTried (search_of (problem_of s)) n b → e ≡ after_splits n b → (l : TreeLine) (k : ℕ) (t : ℤ) → l ≡ line_of (sought_of s) e → l ≡ Split k t →
+    AreSplits (sought_of s) (n + 1) b
+leap_sought s x n b e part tried =
+    leap_done (sought_of s) x n b e (subst (λ z. IsPart b z.model.cells) (sym (search_is s)) part) (subst (λ z. AreTried z n b) (sym (search_is s)) tried)

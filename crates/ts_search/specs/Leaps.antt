@@ -1,5 +1,5 @@
 -- Boxes of which it is known without asking that their lines are splits.
-use Rattle.std.specs.Prelude.{◌≡◌, ◌≤ℤ◌, ℕ, zero, suc, ℤ, pos, Contains, IsTrue, List, [], ◌∷◌}
+use Rattle.std.specs.Prelude.{◌≡◌, ◌≤◌, ◌≤ℤ◌, ℕ, zero, suc, ℤ, pos, Contains, IsTrue, List, [], ◌∷◌, get_or, length}
 use Rattle.ts_base.specs.declared.ext.Ext.{Ext}
 use Rattle.ts_base.specs.declared.ext.Ext.TheVariants.{NegInf, Int, PosInf}
 use Rattle.ts_automaton.specs.declared.state.Mark.{Mark}
@@ -9,6 +9,7 @@ use Rattle.ts_certificate.specs.declared.certificate.TreeLine.TheVariants.{Split
 use Rattle.ts_filter.specs.declared.bar.Bar.{Bar}
 use Rattle.ts_filter.specs.Boxes.{Box, IsInside, low_side, only, values_at}
 use Rattle.ts_filter.specs.RefutedWorseDrop.{IsCut, IsRefuted}
+use Rattle.ts_domain.specs.BoxSeries.{Boxes, all_boxes}
 use Rattle.ts_domain.specs.Kept.{values_above}
 use Rattle.ts_model.specs.declared.model.Op.{Op}
 use Rattle.ts_model.specs.declared.model.Op.TheVariants.{AtMost}
@@ -53,6 +54,10 @@ TakesFreeValues c b (Wide k t) =
 abbrev pub AreTried : Search → ℕ → Box → Type 0
 AreTried c zero b = Unit {0}
 AreTried c (suc n) b = TakesFreeValues c b (form b) × AreTried c n (lower b (form b))
+
+-- the box, and after it on the trail the lower side of each box before
+abbrev pub LeadDown : Box → Boxes → Type 0
+LeadDown b w = (i : ℕ) → i ≤ length w.earlier → get_or (all_boxes w) i [] ≡ after_splits i b
 
 -- what is refuted on a box is refuted on each box inside it
 abbrev pub RefutesInside : Search → Type 0

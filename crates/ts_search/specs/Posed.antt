@@ -8,6 +8,8 @@ use Rattle.ts_spans.specs.Machines.{automata_in, spans_in}
 use Rattle.ts_search.specs.RightSpans.{AreRight}
 use Rattle.ts_search.specs.declared.contest.Contest.{Contest}
 use Rattle.ts_search.specs.declared.problem.Problem.{Problem}
+use Rattle.ts_search.specs.declared.seeking.Seeking.{Seeking}
+use Rattle.ts_search.specs.declared.seeking.Seeking.TheVariants.{Best as SeeksBest, First as SeeksFirst}
 
 -- the model's terms and requirements are few, and its spans are right
 pub record IsPosed (q : Problem) : Type 0 where
@@ -28,3 +30,8 @@ pub record MayAsk (q : Problem) (machines : List Automata) (b : Box) : Type 0 wh
 -- the objective of a contest is the model's
 abbrev pub HasObjective : Contest → Type 0
 HasObjective q = q.problem.model.now.objective ≡ Some q.objective
+
+-- where a best series is sought
+abbrev pub MaySeek : Seeking → Type 0
+MaySeek (SeeksBest c found) = HasObjective c.now
+MaySeek (SeeksFirst q) = Unit {0}

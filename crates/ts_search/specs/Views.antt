@@ -6,12 +6,14 @@ use Rattle.ts_filter.specs.Boxes.{Box, IsPart}
 use Rattle.ts_filter.specs.RefutedWorseDrop.{IsRefuted}
 use Rattle.ts_search.specs.Dive.{Find}
 use Rattle.ts_search.specs.Drops.{after_drops, next_drop}
-use Rattle.ts_search.specs.LineOf.{Search, Contest}
+use Rattle.ts_search.specs.LineOf.{Search, Contest, Sought, TheBest, TheFirst}
 use Rattle.ts_search.specs.Turns.{State, ListState}
 use Rattle.ts_search.specs.declared.found.FoundSeries.{FoundSeries}
 use Rattle.ts_search.specs.declared.listing.ListTree.{ListTree}
 use Rattle.ts_search.specs.declared.contest.Contest.{Contest as GivenContest}
 use Rattle.ts_search.specs.declared.problem.Problem.{Problem}
+use Rattle.ts_search.specs.declared.seeking.Seeking.{Seeking}
+use Rattle.ts_search.specs.declared.seeking.Seeking.TheVariants.{Best as SeeksBest, First as SeeksFirst}
 use Rattle.ts_search.specs.declared.tree.Tree.{Tree}
 
 abbrev pub find_of : Option FoundSeries → Option Find
@@ -26,6 +28,15 @@ search_of q = record {
 
 abbrev pub contest_of : GivenContest → Contest
 contest_of q = record { search = search_of q.problem; goal = q.goal; warm = find_of q.warm }
+
+-- what is sought, and the problem of it
+abbrev pub sought_of : Seeking → Sought
+sought_of (SeeksBest c found) = TheBest (contest_of c.now) (find_of found.now)
+sought_of (SeeksFirst q) = TheFirst (search_of q.now)
+
+abbrev pub problem_of : Seeking → Problem
+problem_of (SeeksBest c found) = c.now.problem
+problem_of (SeeksFirst q) = q.now
 
 abbrev pub state_of : Tree → State
 state_of t = record { lines = t.lines.items; pending = t.frontier.boxes; found = find_of t.found }

@@ -1,145 +1,97 @@
 //! Several splits at once: where the line of a box is a split, so are those of the boxes that led to it by splits, if
 //! none of these took away a value that might have been dropped.
 
-ghost use Rattle.std.specs.Prelude.{◌≡◌, ◌≤◌, ℕ, Contains, IfOk, IsTrue, OnOk, length};
+ghost use Rattle.std.specs.Prelude.{◌≡◌, ◌≤◌, ℕ, [], Contains, IfOk, IsTrue, OnOk, length};
 ghost use Rattle.ts_base.specs.Limits.{most_cells};
-ghost use Rattle.ts_domain.specs.BoxSeries.{IsBox, IsCell, cell_of};
+ghost use Rattle.ts_domain.specs.BoxSeries.{IsCell, cell_of};
 ghost use Rattle.ts_filter.specs.Boxes.{only};
 ghost use Rattle.ts_filter.specs.RefutedWorseDrop.{IsRefuted};
 ghost use Rattle.ts_frontier.specs.Forms.{Wide};
-ghost use Rattle.ts_search.specs.Leaps.{AreSplits, AreTried, ExcludesInside, TakesFreeValues, after_splits};
-ghost use Rattle.ts_search.specs.LineOf.{TheBest, TheFirst};
-ghost use Rattle.ts_search.specs.Posed.{HasObjective, MayAsk};
+ghost use Rattle.ts_search.specs.Leaps.{AreSplits, AreTried, ExcludesInside, LeadDown, TakesFreeValues};
+ghost use Rattle.ts_search.specs.Posed.{MayAsk, MaySeek};
 ghost use Rattle.ts_search.specs.Shown.{AreHeld};
-ghost use Rattle.ts_search.specs.Views.{contest_of, find_of, search_of};
+ghost use Rattle.ts_search.specs.Views.{problem_of, search_of, sought_of};
 
-use crate::contest::Contest;
-use crate::found::FoundSeries;
-use crate::line::{listing_line, solve_line};
 use crate::problem::Problem;
+use crate::seeking::Seeking;
 use crate::witnesses::Witnesses;
 use std::alloc::Global;
 use ts_base::Memory;
 use ts_certificate::TreeLine;
 use ts_domain::Boxed;
 use ts_filter::AllTables;
-use ts_frontier::{Halving, first_halving};
+use ts_frontier::{Halving, halving_from};
 
 /// A leap ends before a cell with more values.
 const MOST_VALUES: u64 = 256;
 
-/// How many lines, that of the box and those below it, are known to be splits, in the search for the best series. It
-/// goes down `reach` splits, or as far as these take away no value that might be dropped, and asks there; then half as
-/// far, and so on.
-pub(crate) fn solve_leap(
+/// How many lines, that of the box and those below it, are known to be splits. It goes down `reach` splits, or as far as
+/// these take away no value that might be dropped, and asks there; then half as far, and so on.
+pub(crate) fn leap(
     alloc: Global,
-    contest: &Contest<'_>,
-    tables: &mut AllTables<'_>,
-    witnesses: &mut Witnesses<'_>,
-    cells: &Boxed,
-    found: &Option<FoundSeries>,
-    reach: u32,
-) -> Result<u32, Memory>
-    requires objective { HasObjective contest.now }
-    requires asked { MayAsk contest.now.problem tables.old cells.now.present }
-    requires held { AreHeld contest.now.problem witnesses.old }
-    requires inside { ExcludesInside (TheBest (contest_of contest.now) (find_of found.now)) }
-    requires few { reach ≤ 64 }
-    ensures same { tables.new ≡ tables.old }
-    ensures held { OnOk result (AreHeld contest.now.problem witnesses.new) }
-    ensures splits { IfOk result
-        (λ n. AreSplits (TheBest (contest_of contest.now) (find_of found.now)) n cells.now.present) }
-{
-    let mut far = tried(alloc, &contest.problem, tables, cells, reach)?;
-    while far > 0 {
-        let below = after_splits(alloc, cells, far)?;
-        witnesses.bring(&contest.problem, &below);
-        let line = solve_line(alloc, contest, tables, witnesses, &below, found)?;
-        if let TreeLine::Split { .. } = line {
-            return Ok(far + 1);
-        }
-        far /= 2;
-    }
-    Ok(0)
-}
-
-/// How many lines, that of the box and those below it, are known to be splits, in a listing. It goes down `reach`
-/// splits, or as far as these take away no value that might be dropped, and asks there; then half as far, and so on.
-pub(crate) fn listing_leap(
-    alloc: Global,
-    problem: &Problem<'_>,
+    seeking: &Seeking<'_>,
     tables: &mut AllTables<'_>,
     witnesses: &mut Witnesses<'_>,
     cells: &Boxed,
     reach: u32,
 ) -> Result<u32, Memory>
-    requires asked { MayAsk problem.now tables.old cells.now.present }
-    requires held { AreHeld problem.now witnesses.old }
-    requires inside { ExcludesInside (TheFirst (search_of problem.now)) }
+    requires objective { MaySeek seeking.now }
+    requires asked { MayAsk (problem_of seeking.now) tables.old cells.now.present }
+    requires held { AreHeld (problem_of seeking.now) witnesses.old }
+    requires inside { ExcludesInside (sought_of seeking.now) }
     requires few { reach ≤ 64 }
     ensures same { tables.new ≡ tables.old }
-    ensures held { OnOk result (AreHeld problem.now witnesses.new) }
-    ensures splits { IfOk result (λ n. AreSplits (TheFirst (search_of problem.now)) n cells.now.present) }
-{
-    let mut far = tried(alloc, problem, tables, cells, reach)?;
-    while far > 0 {
-        let below = after_splits(alloc, cells, far)?;
-        witnesses.bring(problem, &below);
-        let line = listing_line(alloc, problem, tables, witnesses, &below)?;
-        if let TreeLine::Split { .. } = line {
-            return Ok(far + 1);
-        }
-        far /= 2;
-    }
-    Ok(0)
-}
-
-/// How many splits, up to `reach`, take away no value that might be dropped. The box below them has more series than
-/// one, if they are any.
-fn tried(
-    alloc: Global,
-    problem: &Problem<'_>,
-    tables: &mut AllTables<'_>,
-    cells: &Boxed,
-    reach: u32,
-) -> Result<u32, Memory>
-    requires asked { MayAsk problem.now tables.old cells.now.present }
-    ensures same { tables.new ≡ tables.old }
-    ensures few { IfOk result (λ n. n ≤ reach) }
-    ensures tried { IfOk result (λ n. AreTried (search_of problem.now) n cells.now.present) }
+    ensures held { OnOk result (AreHeld (problem_of seeking.now) witnesses.new) }
+    ensures splits { IfOk result (λ n. AreSplits (sought_of seeking.now) n cells.now.present) }
 {
     let mut below = copied(alloc, cells)?;
+    let mut far = go_down(alloc, seeking.problem(), tables, &mut below, reach)?;
+    while far > 0 {
+        below.undo(far as usize);
+        let line = seeking.line(alloc, tables, witnesses, &below)?;
+        if let TreeLine::Split { .. } = line {
+            return Ok(far + 1);
+        }
+        far /= 2;
+    }
+    Ok(0)
+}
+
+/// Goes down splits that take away no value that might be dropped, up to `reach`, each time to the lower side, and
+/// answers how many. The box below these has more series than one, if they are any.
+fn go_down(
+    alloc: Global,
+    problem: &Problem<'_>,
+    tables: &mut AllTables<'_>,
+    below: &mut Boxed,
+    reach: u32,
+) -> Result<u32, Memory>
+    requires asked { MayAsk problem.now tables.old below.old.present }
+    requires first { below.old.earlier ≡ [] }
+    ensures same { tables.new ≡ tables.old }
+    ensures few { IfOk result (λ n. n ≤ reach) }
+    ensures there { IfOk result (λ n. n ≤ length below.new.earlier) }
+    ensures down { OnOk result (LeadDown below.old.present below.new) }
+    ensures tried { IfOk result (λ n. AreTried (search_of problem.now) n below.old.present) }
+{
+    let mut from = 1;
     for i in 0..reach {
-        let Some(halving) = first_halving(&below) else {
+        let Some(halving) = halving_from(below, from) else {
             return Ok(i.saturating_sub(1));
         };
-        if !takes_free_values(alloc, problem, tables, &below, halving)? {
+        if !takes_free_values(alloc, problem, tables, below, halving)? {
             return Ok(i);
         }
         below.keep_low(halving.cell, halving.at)?;
+        from = halving.cell;
     }
     Ok(reach)
-}
-
-/// The box after so many splits, each time the lower side.
-fn after_splits(alloc: Global, cells: &Boxed, far: u32) -> Result<Boxed, Memory>
-    requires domains { IsBox cells.now.present }
-    requires few { length cells.now.present ≤ most_cells }
-    ensures { IfOk result (λ b. b.present ≡ after_splits far cells.now.present) }
-{
-    let mut below = copied(alloc, cells)?;
-    for _ in 0..far {
-        if let Some(halving) = first_halving(&below) {
-            below.keep_low(halving.cell, halving.at)?;
-        }
-    }
-    Ok(below)
 }
 
 /// The box once more, with no box before it.
 fn copied(alloc: Global, cells: &Boxed) -> Result<Boxed, Memory>
     requires { length cells.now.present ≤ most_cells }
-    ensures { IfOk result (λ b. b.present ≡ cells.now.present) }
+    ensures { IfOk result (λ b. b ≡ record { earlier = []; present = cells.now.present }) }
 {
     let mut domains = Vec::new(alloc);
     for i in 0..cells.cells() {

@@ -29,6 +29,7 @@ mod marked;
 mod nearest;
 mod pace;
 mod problem;
+mod seeking;
 mod shown;
 mod tree;
 mod witnesses;

@@ -2,6 +2,7 @@
 
 ghost use Rattle.std.specs.Prelude.{◌≡◌, ◌≤◌, IfOk, IsTrue, List, OnOk, length, map, nat_lt};
 ghost use Rattle.std.specs.List.{AllByRecursion};
+ghost use Rattle.ts_bound.specs.TermSpans.{automata_of};
 ghost use Rattle.ts_certificate.specs.Certificate.{cert_seen};
 ghost use Rattle.ts_certificate.specs.declared.certificate.TreeLine.TheVariants.{Yes as YesLine};
 ghost use Rattle.ts_compile.specs.Programs.{IsProgramOf};
@@ -11,21 +12,20 @@ ghost use Rattle.ts_model.specs.Promise.{IsWhole, KeepsLimits};
 ghost use Rattle.ts_model.specs.Views.{model_parts};
 ghost use Rattle.ts_frontier.specs.Forms.{form};
 ghost use Rattle.ts_search.specs.Listed.{IsListAnswer};
-ghost use Rattle.ts_search.specs.Leaps.{AreSplits, IsPaced, RefutesInside};
-ghost use Rattle.ts_search.specs.LineOf.{TheFirst, line_of};
-ghost use Rattle.ts_search.specs.Posed.{AreTablesOf, IsPosed, MayAsk};
+ghost use Rattle.ts_search.specs.Leaps.{IsPaced, RefutesInside};
+ghost use Rattle.ts_search.specs.LineOf.{TheFirst};
+ghost use Rattle.ts_search.specs.Posed.{AreTablesOf, IsPosed};
 ghost use Rattle.ts_search.specs.Shown.{AreHeld};
-ghost use Rattle.ts_spans.specs.Machines.{spans_in};
+ghost use Rattle.ts_spans.specs.Machines.{automata_in, spans_in};
 ghost use Rattle.ts_search.specs.Turns.{list_certificate, list_claim, list_start, list_turn_on};
 ghost use Rattle.ts_search.specs.Turns.{list_turns, listed_after};
 ghost use Rattle.ts_search.specs.Views.{list_state_of, search_of};
 
 use crate::best::push_open;
 use crate::inside::refutes_inside;
-use crate::leap::listing_leap;
-use crate::line::listing_line;
 use crate::pace::Pace;
 use crate::problem::{Problem, tables_of};
+use crate::seeking::Seeking;
 use crate::witnesses::Witnesses;
 use std::alloc::Global;
 use ts_base::Memory;
@@ -34,6 +34,7 @@ use ts_compile::Program;
 use ts_domain::Boxed;
 use ts_filter::AllTables;
 use ts_frontier::{Form, Frontier, follow, form_of};
+use ts_glue::Machine;
 use ts_model::Model;
 
 /// The lines so far, the boxes that wait for theirs, and the series that were listed.
@@ -63,7 +64,7 @@ pub fn list(
     let problem = Problem { model: m };
     let mut tables = tables_of(alloc, m, p)?;
     let mut witnesses = Witnesses::new(alloc, &problem, p.machines())?;
-    let leaps = refutes_inside(&problem, p.machines());
+    let leaps = may_leap(&problem, p.machines());
     let tree = list_grow(
         alloc,
         &problem,
@@ -74,6 +75,15 @@ pub fn list(
         leaps,
     )?;
     certificate(count, tree)
+}
+
+/// Whether leaps may be made. None is made without a requirement: then a line asks nothing that a leap might spare.
+fn may_leap(problem: &Problem<'_>, machines: &[Machine]) -> bool
+    requires posed { IsPosed problem.now }
+    requires machines { map automata_of machines.now ≡ automata_in (model_parts problem.now.model.now) }
+    ensures { IsTrue result → RefutesInside (search_of problem.now) }
+{
+    problem.requirements() > 0 && refutes_inside(problem, machines)
 }
 
 /// The tree after at most `budget` lines, or when `count` series are listed or no box waits any more. Leaps may be made
@@ -139,41 +149,11 @@ fn list_treat(
         return Ok(());
     }
     let cells = tree.frontier.present();
-    let line = paced_line(alloc, problem, tables, witnesses, cells, pace)?;
+    let line = pace.line(alloc, &Seeking::First(problem), tables, witnesses, cells)?;
     pace.pass(&line);
     tree.lines.push(line)?;
     listed_now(alloc, tree.frontier.present(), line, &mut tree.listed)?;
     follow(&mut tree.frontier, &line)
-}
-
-/// The line of the present box: known by a leap, or asked for.
-fn paced_line(
-    alloc: Global,
-    problem: &Problem<'_>,
-    tables: &mut AllTables<'_>,
-    witnesses: &mut Witnesses<'_>,
-    cells: &Boxed,
-    pace: &mut Pace,
-) -> Result<TreeLine, Memory>
-    requires asked { MayAsk problem.now tables.old cells.now.present }
-    requires held { AreHeld problem.now witnesses.old }
-    requires inside { IsTrue pace.old.leaps → RefutesInside (search_of problem.now) }
-    requires ahead { AreSplits (TheFirst (search_of problem.now)) pace.old.ahead cells.now.present }
-    ensures same { tables.new ≡ tables.old }
-    ensures held { OnOk result (AreHeld problem.now witnesses.new) }
-    ensures leaps { pace.new.leaps ≡ pace.old.leaps }
-    ensures ahead { OnOk result (AreSplits (TheFirst (search_of problem.now)) pace.new.ahead cells.now.present) }
-    ensures line { IfOk result (λ l. l ≡ line_of (TheFirst (search_of problem.now)) cells.now.present) }
-{
-    let reach = pace.reach();
-    if reach > 0 {
-        pace.learn(listing_leap(alloc, problem, tables, witnesses, cells, reach)?);
-    }
-    if let Some(line) = pace.known(cells) {
-        return Ok(line);
-    }
-    witnesses.bring(problem, cells);
-    listing_line(alloc, problem, tables, witnesses, cells)
 }
 
 /// The listed series after a line: the one series of a box is the next where the line is `yes`.

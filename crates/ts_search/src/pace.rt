@@ -1,11 +1,20 @@
 //! How many lines to come are known, and when it may pay to find out.
 
-ghost use Rattle.std.specs.Prelude.{◌≡◌, ◌<◌, ◌≤◌, ◌-◌, IfSome, IsTrue};
-ghost use Rattle.ts_search.specs.Leaps.{AreSplits};
+ghost use Rattle.std.specs.Prelude.{◌≡◌, ◌<◌, ◌≤◌, ◌-◌, IfOk, IfSome, IsTrue, OnOk};
+ghost use Rattle.ts_search.specs.Leaps.{AreSplits, ExcludesInside};
 ghost use Rattle.ts_search.specs.LineOf.{Sought, line_of};
+ghost use Rattle.ts_search.specs.Posed.{MayAsk, MaySeek};
+ghost use Rattle.ts_search.specs.Shown.{AreHeld};
+ghost use Rattle.ts_search.specs.Views.{problem_of, sought_of};
 
+use crate::leap::leap;
+use crate::seeking::Seeking;
+use crate::witnesses::Witnesses;
+use std::alloc::Global;
+use ts_base::Memory;
 use ts_certificate::TreeLine;
 use ts_domain::Boxed;
+use ts_filter::AllTables;
 use ts_frontier::first_halving;
 
 /// A leap goes down so many boxes at most.
@@ -36,8 +45,38 @@ impl Pace {
         }
     }
 
+    /// The line of a box: known by a leap, or asked for.
+    pub(crate) fn line(
+        &mut self,
+        alloc: Global,
+        seeking: &Seeking<'_>,
+        tables: &mut AllTables<'_>,
+        witnesses: &mut Witnesses<'_>,
+        cells: &Boxed,
+    ) -> Result<TreeLine, Memory>
+        requires objective { MaySeek seeking.now }
+        requires asked { MayAsk (problem_of seeking.now) tables.old cells.now.present }
+        requires held { AreHeld (problem_of seeking.now) witnesses.old }
+        requires inside { IsTrue self.old.leaps → ExcludesInside (sought_of seeking.now) }
+        requires ahead { AreSplits (sought_of seeking.now) self.old.ahead cells.now.present }
+        ensures same { tables.new ≡ tables.old }
+        ensures held { OnOk result (AreHeld (problem_of seeking.now) witnesses.new) }
+        ensures leaps { self.new.leaps ≡ self.old.leaps }
+        ensures ahead { OnOk result (AreSplits (sought_of seeking.now) self.new.ahead cells.now.present) }
+        ensures line { IfOk result (λ l. l ≡ line_of (sought_of seeking.now) cells.now.present) }
+    {
+        let reach = self.reach();
+        if reach > 0 {
+            self.learn(leap(alloc, seeking, tables, witnesses, cells, reach)?);
+        }
+        if let Some(line) = self.known(cells) {
+            return Ok(line);
+        }
+        seeking.line(alloc, tables, witnesses, cells)
+    }
+
     /// How far down to leap; 0 where no leap is to be made.
-    pub(crate) fn reach(&self) -> u32
+    fn reach(&self) -> u32
         ensures may { 0 < result → IsTrue self.now.leaps }
         ensures few { result ≤ 64 }
     {
@@ -48,7 +87,7 @@ impl Pace {
     }
 
     /// After a leap so many lines are known. Where none is, the splits are counted anew.
-    pub(crate) fn learn(&mut self, ahead: u32)
+    fn learn(&mut self, ahead: u32)
         ensures leaps { self.new.leaps ≡ self.old.leaps }
         ensures ahead { self.new.ahead ≡ ahead }
     {
@@ -71,7 +110,7 @@ impl Pace {
     }
 
     /// The line of the box, if it is known.
-    pub(crate) fn known(&self, cells: &Boxed) -> Option<TreeLine>
+    fn known(&self, cells: &Boxed) -> Option<TreeLine>
         ensures { IfSome result (λ l. (q : Sought) → AreSplits q self.now.ahead cells.now.present →
             l ≡ line_of q cells.now.present) }
     {

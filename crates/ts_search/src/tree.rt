@@ -6,18 +6,17 @@ ghost use Rattle.ts_certificate.specs.declared.certificate.TreeLine.TheVariants.
 ghost use Rattle.ts_filter.specs.Boxes.{IsPart};
 ghost use Rattle.ts_frontier.specs.Forms.{form};
 ghost use Rattle.ts_search.specs.Dive.{Find};
-ghost use Rattle.ts_search.specs.Leaps.{AreSplits, ExcludesInside, IsPaced};
-ghost use Rattle.ts_search.specs.LineOf.{TheBest, line_of};
-ghost use Rattle.ts_search.specs.Posed.{AreTablesOf, HasObjective, IsPosed, MayAsk};
+ghost use Rattle.ts_search.specs.Leaps.{ExcludesInside, IsPaced};
+ghost use Rattle.ts_search.specs.LineOf.{TheBest};
+ghost use Rattle.ts_search.specs.Posed.{AreTablesOf, HasObjective, IsPosed};
 ghost use Rattle.ts_search.specs.Shown.{AreHeld};
 ghost use Rattle.ts_search.specs.Turns.{found_after, start, turn, turns};
 ghost use Rattle.ts_search.specs.Views.{contest_of, find_of, search_of, state_of};
 
 use crate::contest::Contest;
 use crate::found::FoundSeries;
-use crate::leap::solve_leap;
-use crate::line::solve_line;
 use crate::pace::Pace;
+use crate::seeking::Seeking;
 use crate::witnesses::Witnesses;
 use std::alloc::Global;
 use ts_base::Memory;
@@ -97,47 +96,13 @@ fn treat(
         return Ok(());
     }
     let cells = tree.frontier.present();
-    let line = paced_line(alloc, contest, tables, witnesses, cells, &tree.found, pace)?;
+    let seeking = Seeking::Best(contest, &tree.found);
+    let line = pace.line(alloc, &seeking, tables, witnesses, cells)?;
     pace.pass(&line);
     tree.lines.push(line)?;
     let found = tree.found.take();
     tree.found = found_now(alloc, contest, tree.frontier.present(), line, found)?;
     follow(&mut tree.frontier, &line)
-}
-
-/// The line of the present box: known by a leap, or asked for.
-fn paced_line(
-    alloc: Global,
-    contest: &Contest<'_>,
-    tables: &mut AllTables<'_>,
-    witnesses: &mut Witnesses<'_>,
-    cells: &Boxed,
-    found: &Option<FoundSeries>,
-    pace: &mut Pace,
-) -> Result<TreeLine, Memory>
-    requires objective { HasObjective contest.now }
-    requires asked { MayAsk contest.now.problem tables.old cells.now.present }
-    requires held { AreHeld contest.now.problem witnesses.old }
-    requires inside { IsTrue pace.old.leaps → ExcludesInside (TheBest (contest_of contest.now) (find_of found.now)) }
-    requires ahead { AreSplits (TheBest (contest_of contest.now) (find_of found.now)) pace.old.ahead
-        cells.now.present }
-    ensures same { tables.new ≡ tables.old }
-    ensures held { OnOk result (AreHeld contest.now.problem witnesses.new) }
-    ensures leaps { pace.new.leaps ≡ pace.old.leaps }
-    ensures ahead { OnOk result (AreSplits (TheBest (contest_of contest.now) (find_of found.now)) pace.new.ahead
-        cells.now.present) }
-    ensures line { IfOk result
-        (λ l. l ≡ line_of (TheBest (contest_of contest.now) (find_of found.now)) cells.now.present) }
-{
-    let reach = pace.reach();
-    if reach > 0 {
-        pace.learn(solve_leap(alloc, contest, tables, witnesses, cells, found, reach)?);
-    }
-    if let Some(line) = pace.known(cells) {
-        return Ok(line);
-    }
-    witnesses.bring(&contest.problem, cells);
-    solve_line(alloc, contest, tables, witnesses, cells, found)
 }
 
 /// The incumbent after a line: after `worse`, the one series of the box if it reaches the bar.

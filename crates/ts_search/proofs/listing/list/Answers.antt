@@ -32,8 +32,8 @@ returns c =
     (are_right m c.requires.whole c.requires.limits.box) refl c.in_ok-tree.ensures.turns made)
     c.certificate.ensures
 
-pub refutes_inside-leaps-requires-clause-posed : goal.refutes_inside-leaps-requires-clause-posed
-refutes_inside-leaps-requires-clause-posed c = posed_list c.args.m.now c.requires.whole c.requires.limits _ refl
+pub may_leap-leaps-requires-clause-posed : goal.may_leap-leaps-requires-clause-posed
+may_leap-leaps-requires-clause-posed c = posed_list c.args.m.now c.requires.whole c.requires.limits _ refl
 
-pub refutes_inside-leaps-requires-clause-machines : goal.refutes_inside-leaps-requires-clause-machines
-refutes_inside-leaps-requires-clause-machines c = ap (map automata_of) c.machines-2.ensures ∙ machines_are c.args.p.now c.args.m.now c.requires.program
+pub may_leap-leaps-requires-clause-machines : goal.may_leap-leaps-requires-clause-machines
+may_leap-leaps-requires-clause-machines c = ap (map automata_of) c.machines-2.ensures ∙ machines_are c.args.p.now c.args.m.now c.requires.program

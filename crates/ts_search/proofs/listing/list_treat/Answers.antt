@@ -9,8 +9,8 @@ use Rattle.ts_search.proofs.Paced.{first_ahead, listing_paced}
 use Rattle.ts_search.proofs.CodeTurns.{list_turned, first_makes, present_part}
 use Rattle.ts_search.proofs.listing.list_treat.Goals as goal
 
-pub paced_line-requires-clause-asked : goal.paced_line-requires-clause-asked
-paced_line-requires-clause-asked c = record {
+pub line-requires-clause-asked : goal.line-requires-clause-asked
+line-requires-clause-asked c = record {
   posed = c.requires.posed;
   part = present_part (search_of c.args.problem.now).model.cells c.args.tree.now.frontier.boxes c.advance.new.self.boxes
       c.present-cells.result.now.present c.requires.parts c.in_ok-advance.ensures.same c.present-cells.ensures;
@@ -39,8 +39,8 @@ returns-clause-turn c =
     c.in_ok-line.ensures.line c.in_ok-push.ensures.items c.present.ensures c.in_ok-listed_now.ensures boxes)
     c.follow.ensures.ok
 
-pub paced_line-requires-clause-ahead : goal.paced_line-requires-clause-ahead
-paced_line-requires-clause-ahead c =
+pub line-requires-clause-ahead : goal.line-requires-clause-ahead
+line-requires-clause-ahead c =
     first_ahead (TheFirst (search_of c.args.problem.now)) c.args.pace.now.ahead c.args.tree.now.frontier.boxes c.advance.new.self.boxes
     c.present-cells.result.now.present c.requires.paced.ahead c.in_ok-advance.ensures.same c.present-cells.ensures
 
@@ -49,6 +49,6 @@ returns-clause-paced c =
     let s = search_of c.args.problem.now in
     on_ok_weaker c.follow.result
     (λ boxes. listing_paced c.present-cells.result.now.present c.present.result.now.present c.advance.new.self.boxes c.follow.new.frontier.boxes
-    c.in_ok-line.line c.present-cells.ensures c.present.ensures boxes s c.args.pace.now c.paced_line.new.pace c.pass.new.self
-    c.requires.paced.inside c.paced_line.ensures.leaps c.pass.ensures.leaps c.in_ok-line.ensures.ahead c.pass.ensures.ahead c.in_ok-line.ensures.line)
+    c.in_ok-line.line c.present-cells.ensures c.present.ensures boxes s c.args.pace.now c.line.new.self c.pass.new.self
+    c.requires.paced.inside c.line.ensures.leaps c.pass.ensures.leaps c.in_ok-line.ensures.ahead c.pass.ensures.ahead c.in_ok-line.ensures.line)
     c.follow.ensures.ok

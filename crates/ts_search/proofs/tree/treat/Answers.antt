@@ -9,8 +9,8 @@ use Rattle.ts_search.proofs.CodeTurns.{first_makes, present_part}
 use Rattle.ts_search.proofs.tree.treat.Goals as goal
 
 -- the present box is the first that waits, which is inside the model's
-pub paced_line-requires-clause-asked : goal.paced_line-requires-clause-asked
-paced_line-requires-clause-asked c = record {
+pub line-requires-clause-asked : goal.line-requires-clause-asked
+line-requires-clause-asked c = record {
   posed = c.requires.posed;
   part = present_part (search_of c.args.contest.now.problem).model.cells c.args.tree.now.frontier.boxes c.advance.new.self.boxes
       c.present-cells.result.now.present c.requires.parts c.in_ok-advance.ensures.same c.present-cells.ensures;
@@ -28,8 +28,8 @@ follow-requires-clause-fits c =
     c.advance.new.self.boxes c.present-cells.result.now.present c.in_ok-line.line c.requires.parts c.in_ok-advance.ensures.same c.present-cells.ensures
     c.in_ok-line.ensures.line
 
-pub paced_line-requires-clause-ahead : goal.paced_line-requires-clause-ahead
-paced_line-requires-clause-ahead c =
+pub line-requires-clause-ahead : goal.line-requires-clause-ahead
+line-requires-clause-ahead c =
     first_ahead (TheBest (contest_of c.args.contest.now) (find_of c.args.tree.now.found)) c.args.pace.now.ahead c.args.tree.now.frontier.boxes
     c.advance.new.self.boxes c.present-cells.result.now.present c.requires.paced.ahead c.in_ok-advance.ensures.same c.present-cells.ensures
 
@@ -39,7 +39,7 @@ returns-clause-paced c =
     let found = find_of c.args.tree.now.found in
     on_ok_weaker c.follow.result
     (λ boxes. solve_paced c.present-cells.result.now.present c.present.result.now.present c.advance.new.self.boxes c.follow.new.frontier.boxes c.in_ok-line.line
-    c.present-cells.ensures c.present.ensures boxes s found _ c.args.pace.now c.paced_line.new.pace c.pass.new.self
-    c.requires.paced.inside c.paced_line.ensures.leaps c.pass.ensures.leaps c.in_ok-line.ensures.ahead c.pass.ensures.ahead c.in_ok-line.ensures.line
+    c.present-cells.ensures c.present.ensures boxes s found _ c.args.pace.now c.line.new.self c.pass.new.self
+    c.requires.paced.inside c.line.ensures.leaps c.pass.ensures.leaps c.in_ok-line.ensures.ahead c.pass.ensures.ahead c.in_ok-line.ensures.line
     (c.in_ok-tree.ensures ∙ ap (λ z. found_after s (find_of z) (form c.present.result.now.present) c.in_ok-line.line) c.take-found.ensures.value))
     c.follow.ensures.ok

@@ -3,7 +3,7 @@ use Rattle.std.proofs.lemmas.Bool.{false≢true}
 use Rattle.std.proofs.lemmas.Int.{to_z-of_z}
 use mir.Syntax.{w64}
 use Rattle.ts_frontier.proofs.Halves.{halving_next, halving_here, all_single}
-use Rattle.ts_frontier.proofs.halve.first_halving.Goals as goal
+use Rattle.ts_frontier.proofs.halve.halving_from.Goals as goal
 
 pub returns-then-not-is_single : goal.returns-then-not-is_single
 returns-then-not-is_single c =
