@@ -1,5 +1,6 @@
 -- The rules of the lines of a tree, by what the code asks of a term's machine.
 use Rattle.std.proofs.Common.{◌≡◌, ◌↔◌, ℕ, ◌-◌, ◌<◌, ◌≤◌, ℤ, Bool, true, false, IsTrue, List, length, Option, Some, None, slice_get, refl, sym, ◌∙◌, ap, subst, arith}
+use Rattle.std.specs.List.{AllByRecursion}
 use Rattle.std.specs.Prelude.{Contains, IfOk, IfSome, MatchOption, Result, Ok, Err}
 use Rattle.std.proofs.lemmas.List.{length-map}
 use Rattle.std.proofs.lemmas.Option.{same_Some}
@@ -26,7 +27,7 @@ use Rattle.ts_filter.proofs.CallLaws.{calls_tell, usable_whole}
 use Rattle.ts_filter.proofs.MachineLaws.{slice_get-some, spans_are_of_machines}
 use Rattle.ts_filter.proofs.SoundLaws.{each_at}
 use Rattle.ts_spans.specs.Machines.{automata_for, automata_in, spans_in}
-use Rattle.ts_spans.proofs.OfTerms.{window_looks}
+use Rattle.ts_spans.proofs.OfTerms.{window_looks, windows_look}
 use Rattle.ts_checker.specs.Subjects.{AreTables}
 
 -- the machine of a term
@@ -35,11 +36,20 @@ some_at : (P : ℕ → Type 0) (o : Option ℕ) (t : ℕ) → IfSome o P → o �
 some_at P None t h e = absurd (let f : ◌≡◌ {A = Option ℕ} None (Some t) = e in cc)
 some_at P (Some u) t h e = subst P (same_Some u t e) h
 
+-- they are the same machines once the tables are brought to another box
+pub brought : (m : ModelParts) (old new : List Automata) → new ≡ old → AreTables m old → AreTables m new
+brought m old new same is = record { machines = same ∙ is.machines; whole = is.whole }
+
 module _ (m : ModelParts) (tables : List Automata) (is : AreTables m tables) where
   tables_count : length tables ≡ length m.terms
   tables_count = ap length is.machines ∙ length-map m.terms (λ t. automata_for t.1)
 
-  -- its window ends at a cell of each box that has the model's cells
+  -- the window of each ends at a cell of each box that has the model's cells
+  pub all_look : (b : Box) → length b ≡ length m.cells → AllByRecursion (λ a. LooksIn a b) tables
+  all_look b size =
+      subst (AllByRecursion (λ a. LooksIn a b)) (sym is.machines)
+      (subst (λ n. AllByRecursion (λ (a : Automata). LooksInside n a.window) (automata_in m)) (sym size) (windows_look m is.whole))
+
   pub box_looks : (b : Box) → length b ≡ length m.cells → (term : ℕ) → OfTerm tables term (λ a. LooksIn a b)
   box_looks b size term a has =
       subst (λ n. LooksInside n a.window) (sym size) (window_looks m is.whole term a (ap (λ l. slice_get l term) (sym is.machines) ∙ has))

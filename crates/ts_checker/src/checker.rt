@@ -57,7 +57,7 @@ impl std::marker::Model for Checker {
     } };
 
     ghost invariant = { λ c.
-        AreTables (model_parts c.model) c.tables × IsBox (model_parts c.model).cells
+        AreTables (model_parts c.model) c.tables.machines × IsBox (model_parts c.model).cells
         × AreSized (model_parts c.model) c.standing.frontier.boxes };
 }
 

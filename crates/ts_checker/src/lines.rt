@@ -30,10 +30,10 @@ pub(crate) fn keeps_line(
     standing: &mut Standing,
     line: &Parsed,
 ) -> Result<bool, Memory>
-    requires tables { AreTables (model_parts model.now) tables.old }
+    requires tables { AreTables (model_parts model.now) tables.old.machines }
     requires sized { AreSized (model_parts model.now) standing.old.frontier.boxes }
     requires values { AreValues line.now }
-    ensures tables { tables.new ≡ tables.old }
+    ensures machines { tables.new.machines ≡ tables.old.machines }
     ensures same { stand_of standing.new ≡ stand_of standing.old }
     ensures keeps { IfOk result (λ keeps. IsTrue keeps
         ↔ KeepsLine (model_parts model.now) (spans_in (model_parts model.now)) (stand_of standing.old)
@@ -85,9 +85,9 @@ fn keeps_tree(
     standing: &mut Standing,
     line: TreeLine,
 ) -> Result<bool, Memory>
-    requires tables { AreTables (model_parts model.now) tables.old }
+    requires tables { AreTables (model_parts model.now) tables.old.machines }
     requires sized { AreSized (model_parts model.now) standing.old.frontier.boxes }
-    ensures tables { tables.new ≡ tables.old }
+    ensures machines { tables.new.machines ≡ tables.old.machines }
     ensures same { stand_of standing.new ≡ stand_of standing.old }
     ensures keeps { IfOk result (λ keeps. IsTrue keeps
         ↔ KeepsTreeRule (model_parts model.now) (spans_in (model_parts model.now)) standing.old.aim standing.old.claim

@@ -28,9 +28,9 @@ pub(crate) fn keeps_rule(
     b: &Boxed,
     line: TreeLine,
 ) -> Result<bool, Memory>
-    requires tables { AreTables (model_parts model.now) tables.old }
+    requires tables { AreTables (model_parts model.now) tables.old.machines }
     requires size { length b.now.present ≡ length (model_parts model.now).cells }
-    ensures same { tables.new ≡ tables.old }
+    ensures machines { tables.new.machines ≡ tables.old.machines }
     ensures keeps { IfOk result
         (λ keeps. IsTrue keeps ↔ KeepsRule (model_parts model.now) (spans_in (model_parts model.now))
         (head_in head.now) head.now.told b.now.present line) }
@@ -63,9 +63,9 @@ fn is_drop(
     v: i64,
     j: u32,
 ) -> Result<bool, Memory>
-    requires tables { AreTables (model_parts model.now) tables.old }
+    requires tables { AreTables (model_parts model.now) tables.old.machines }
     requires size { length b.now.present ≡ length (model_parts model.now).cells }
-    ensures same { tables.new ≡ tables.old }
+    ensures machines { tables.new.machines ≡ tables.old.machines }
     ensures keeps { IfOk result (λ keeps. IsTrue keeps
         ↔ IsDrop (model_parts model.now).requirements (spans_in (model_parts model.now)) k v j b.now.present) }
     ensures may { IfOk result (λ keeps. IsTrue keeps → MakesBoxes (TreeLine.Remove k v j) b.now.present) }
@@ -79,6 +79,7 @@ fn is_drop(
     let Some(require) = requirement(&model.requirements, j) else {
         return Ok(false);
     };
+    tables.bring(alloc, b)?;
     if !is_usable(tables, require.term, k, b) {
         return Ok(false);
     }
@@ -94,15 +95,16 @@ fn is_refuted(
     j: u32,
     p: u32,
 ) -> Result<bool, Memory>
-    requires tables { AreTables (model_parts model.now) tables.old }
+    requires tables { AreTables (model_parts model.now) tables.old.machines }
     requires size { length b.now.present ≡ length (model_parts model.now).cells }
-    ensures same { tables.new ≡ tables.old }
+    ensures machines { tables.new.machines ≡ tables.old.machines }
     ensures keeps { IfOk result (λ keeps. IsTrue keeps
         ↔ IsRefuted (model_parts model.now).requirements (spans_in (model_parts model.now)) j p b.now.present) }
 {
     let Some(require) = requirement(&model.requirements, j) else {
         return Ok(false);
     };
+    tables.bring(alloc, b)?;
     if !is_usable(tables, require.term, p, b) {
         return Ok(false);
     }
@@ -118,9 +120,9 @@ fn may_be_worse(
     b: &Boxed,
     p: u32,
 ) -> Result<bool, Memory>
-    requires tables { AreTables (model_parts model.now) tables.old }
+    requires tables { AreTables (model_parts model.now) tables.old.machines }
     requires size { length b.now.present ≡ length (model_parts model.now).cells }
-    ensures same { tables.new ≡ tables.old }
+    ensures machines { tables.new.machines ≡ tables.old.machines }
     ensures keeps { IfOk result (λ keeps. IsTrue keeps
         ↔ MayBeWorse (model_parts model.now) (spans_in (model_parts model.now)) (head_in head.now) p b.now.present) }
 {
@@ -130,6 +132,7 @@ fn may_be_worse(
     let Some(term) = model.objective else {
         return Ok(false);
     };
+    tables.bring(alloc, b)?;
     if !is_usable(tables, term, p, b) {
         return Ok(false);
     }

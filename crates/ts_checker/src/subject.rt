@@ -35,8 +35,8 @@ pub(crate) fn requirement(requirements: &[Require], j: u32) -> Option<Require>
 
 /// Whether the term's machine has a span at cell `p`: at any cell, but at the last alone where it can't be split.
 pub(crate) fn is_usable(tables: &AllTables<'_>, term: u32, p: u32, b: &Boxed) -> bool
-    requires { term < length tables.now }
-    ensures { OfTerm tables.now term (λ a. IsTrue result ↔ IsUsable a p b.now.present) }
+    requires { term < length tables.now.machines }
+    ensures { OfTerm tables.now.machines term (λ a. IsTrue result ↔ IsUsable a p b.now.present) }
 {
     p >= 1 && p <= b.cells() && (p == b.cells() || !tables.is_plain(term))
 }

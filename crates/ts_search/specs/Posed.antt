@@ -3,6 +3,7 @@ use Rattle.std.specs.Prelude.{◌≡◌, ◌≤◌, List, Some, length}
 use Rattle.ts_base.specs.Limits.{most_requirements, most_terms}
 use Rattle.ts_bound.specs.TermSpans.{Automata}
 use Rattle.ts_filter.specs.Boxes.{Box, IsPart}
+use Rattle.ts_filter.specs.Tables.{Tables}
 use Rattle.ts_model.specs.Views.{model_parts}
 use Rattle.ts_spans.specs.Machines.{automata_in, spans_in}
 use Rattle.ts_search.specs.RightSpans.{AreRight}
@@ -19,19 +20,27 @@ pub record IsPosed (q : Problem) : Type 0 where
 
 -- they are the machines of its terms
 abbrev pub AreTablesOf : Problem → List Automata → Type 0
-AreTablesOf q tables = tables ≡ automata_in (model_parts q.model.now)
+AreTablesOf q machines = machines ≡ automata_in (model_parts q.model.now)
 
--- the tables may be asked of a box: the problem is posed, they are its tables, and the box lies in the model's
-pub record MayAsk (q : Problem) (machines : List Automata) (b : Box) : Type 0 where
+-- the tables of these machines may be brought to a box: the problem is posed, they are its tables, and the box lies in
+-- the model's
+pub record MayBring (q : Problem) (machines : List Automata) (b : Box) : Type 0 where
   pub posed : IsPosed q
   pub part : IsPart b (model_parts q.model.now).cells
   pub tables : AreTablesOf q machines
+
+-- the tables may be asked of a box: they might be brought to it, and have been
+pub record MayAsk (q : Problem) (t : Tables) (b : Box) : Type 0 where
+  pub posed : IsPosed q
+  pub part : IsPart b (model_parts q.model.now).cells
+  pub tables : AreTablesOf q t.machines
+  pub on : t.cells ≡ b
 
 -- the objective of a contest is the model's
 abbrev pub HasObjective : Contest → Type 0
 HasObjective q = q.problem.model.now.objective ≡ Some q.objective
 
--- where a best series is sought
+-- what is sought may be: where it is the best series of a contest, its objective is the model's
 abbrev pub MaySeek : Seeking → Type 0
 MaySeek (SeeksBest c found) = HasObjective c.now
 MaySeek (SeeksFirst q) = Unit {0}

@@ -6,7 +6,7 @@ ghost use Rattle.ts_filter.specs.Boxes.{IsPart, only};
 ghost use Rattle.ts_search.specs.Dive.{dive, dive_end, kept_value};
 ghost use Rattle.ts_search.specs.Drops.{next_drop};
 ghost use Rattle.ts_frontier.specs.Forms.{form};
-ghost use Rattle.ts_search.specs.Posed.{AreTablesOf, HasObjective, IsPosed, MayAsk};
+ghost use Rattle.ts_search.specs.Posed.{AreTablesOf, HasObjective, IsPosed, MayAsk, MayBring};
 ghost use Rattle.ts_search.specs.Shown.{AreHeld};
 ghost use Rattle.ts_search.specs.Views.{IsSettled, find_of, search_of};
 
@@ -32,9 +32,9 @@ pub(crate) fn dive(
 ) -> Result<Option<FoundSeries>, Memory>
     requires objective { HasObjective contest.now }
     requires posed { IsPosed contest.now.problem }
-    requires tables { AreTablesOf contest.now.problem tables.old }
+    requires tables { AreTablesOf contest.now.problem tables.old.machines }
     requires held { AreHeld contest.now.problem witnesses.old }
-    ensures same { tables.new ≡ tables.old }
+    ensures machines { tables.new.machines ≡ tables.old.machines }
     ensures held { OnOk result (AreHeld contest.now.problem witnesses.new) }
     ensures found { let s = search_of contest.now.problem in
         IfOk result (λ found. find_of found ≡ dive s.model s.spans contest.now.goal) }
@@ -53,7 +53,7 @@ pub(crate) fn dive(
 }
 
 /// Makes the possible drops, one after the other, and answers whether none is left. It stops early if a requirement is
-/// refuted at the last cell.
+/// refuted at the last cell. The tables are brought to each box on the way, and to the one that is left.
 fn settle(
     alloc: Global,
     problem: &Problem<'_>,
@@ -61,12 +61,14 @@ fn settle(
     witnesses: &mut Witnesses<'_>,
     cells: &mut Boxed,
 ) -> Result<bool, Memory>
-    requires asked { MayAsk problem.now tables.old cells.old.present }
+    requires asked { MayBring problem.now tables.old.machines cells.old.present }
     requires held { AreHeld problem.now witnesses.old }
-    ensures same { tables.new ≡ tables.old }
+    ensures machines { tables.new.machines ≡ tables.old.machines }
+    ensures asked { OnOk result (MayAsk problem.now tables.new cells.new.present) }
     ensures held { OnOk result (AreHeld problem.now witnesses.new) }
     ensures settled { IfOk result (λ all. IsSettled (search_of problem.now) cells.old.present cells.new.present all) }
 {
+    problem.bring_tables(alloc, tables, cells)?;
     witnesses.bring(problem, cells);
     while refuted_requirement(alloc, problem, tables, witnesses, cells)?.is_none() {
         witnesses.mark(problem, cells);
@@ -74,6 +76,7 @@ fn settle(
             Some(removal) => cells.remove(removal.cell, removal.value)?,
             None => return Ok(true),
         }
+        problem.bring_tables(alloc, tables, cells)?;
         witnesses.bring(problem, cells);
     }
     Ok(false)

@@ -8,7 +8,7 @@ ghost use Rattle.ts_filter.specs.Boxes.{only};
 ghost use Rattle.ts_filter.specs.RefutedWorseDrop.{IsRefuted};
 ghost use Rattle.ts_frontier.specs.Forms.{Wide};
 ghost use Rattle.ts_search.specs.Leaps.{AreSplits, AreTried, ExcludesInside, LeadDown, TakesFreeValues};
-ghost use Rattle.ts_search.specs.Posed.{MayAsk, MaySeek};
+ghost use Rattle.ts_search.specs.Posed.{MayAsk, MayBring, MaySeek};
 ghost use Rattle.ts_search.specs.Shown.{AreHeld};
 ghost use Rattle.ts_search.specs.Views.{problem_of, search_of, sought_of};
 
@@ -36,11 +36,11 @@ pub(crate) fn leap(
     reach: u32,
 ) -> Result<u32, Memory>
     requires objective { MaySeek seeking.now }
-    requires asked { MayAsk (problem_of seeking.now) tables.old cells.now.present }
+    requires asked { MayBring (problem_of seeking.now) tables.old.machines cells.now.present }
     requires held { AreHeld (problem_of seeking.now) witnesses.old }
     requires inside { ExcludesInside (sought_of seeking.now) }
     requires few { reach ≤ 64 }
-    ensures same { tables.new ≡ tables.old }
+    ensures machines { tables.new.machines ≡ tables.old.machines }
     ensures held { OnOk result (AreHeld (problem_of seeking.now) witnesses.new) }
     ensures splits { IfOk result (λ n. AreSplits (sought_of seeking.now) n cells.now.present) }
 {
@@ -66,9 +66,9 @@ fn go_down(
     below: &mut Boxed,
     reach: u32,
 ) -> Result<u32, Memory>
-    requires asked { MayAsk problem.now tables.old below.old.present }
+    requires asked { MayBring problem.now tables.old.machines below.old.present }
     requires first { below.old.earlier ≡ [] }
-    ensures same { tables.new ≡ tables.old }
+    ensures machines { tables.new.machines ≡ tables.old.machines }
     ensures few { IfOk result (λ n. n ≤ reach) }
     ensures there { IfOk result (λ n. n ≤ length below.new.earlier) }
     ensures down { OnOk result (LeadDown below.old.present below.new) }
@@ -79,6 +79,7 @@ fn go_down(
         let Some(halving) = halving_from(below, from) else {
             return Ok(i.saturating_sub(1));
         };
+        problem.bring_tables(alloc, tables, below)?;
         if !takes_free_values(alloc, problem, tables, below, halving)? {
             return Ok(i);
         }

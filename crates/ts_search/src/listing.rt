@@ -98,10 +98,10 @@ fn list_grow(
     leaps: bool,
 ) -> Result<ListTree, Memory>
     requires posed { IsPosed problem.now }
-    requires tables { AreTablesOf problem.now tables.old }
+    requires tables { AreTablesOf problem.now tables.old.machines }
     requires held { AreHeld problem.now witnesses.old }
     requires inside { IsTrue leaps → RefutesInside (search_of problem.now) }
-    ensures same { tables.new ≡ tables.old }
+    ensures machines { tables.new.machines ≡ tables.old.machines }
     ensures few { IfOk result (λ t. length t.listed.items ≤ count) }
     ensures turns { IfOk result (λ t. list_state_of t
         ≡ list_turns (search_of problem.now) count budget (list_start (search_of problem.now))) }
@@ -136,10 +136,10 @@ fn list_treat(
 ) -> Result<(), Memory>
     requires posed { IsPosed problem.now }
     requires parts { AllByRecursion (λ b. IsPart b (search_of problem.now).model.cells) tree.old.frontier.boxes }
-    requires tables { AreTablesOf problem.now tables.old }
+    requires tables { AreTablesOf problem.now tables.old.machines }
     requires held { AreHeld problem.now witnesses.old }
     requires paced { IsPaced (TheFirst (search_of problem.now)) pace.old tree.old.frontier.boxes }
-    ensures same { tables.new ≡ tables.old }
+    ensures machines { tables.new.machines ≡ tables.old.machines }
     ensures held { OnOk result (AreHeld problem.now witnesses.new) }
     ensures turn { OnOk result (list_state_of tree.new
         ≡ list_turn_on (search_of problem.now) (list_state_of tree.old) tree.old.frontier.boxes) }

@@ -1,6 +1,6 @@
 //! What witnesses show of drops, marked before any is looked for.
 
-ghost use Rattle.std.specs.Prelude.{◌≡◌, ◌+◌, ◌<◌, ◌≤ℤ◌, ℤ, Contains, IfSome, IsTrue, Some, length, slice_get};
+ghost use Rattle.std.specs.Prelude.{◌≡◌, ◌+◌, ◌<◌, ℤ, IfSome, IsTrue, Some, length, slice_get};
 ghost use Rattle.ts_domain.specs.BoxSeries.{IsCell};
 ghost use Rattle.ts_filter.specs.Boxes.{IsPart, values_at};
 ghost use Rattle.ts_filter.specs.KeptCells.{IsSpared};

@@ -3,7 +3,7 @@
 ghost use Rattle.std.specs.Prelude.{◌≡◌, ◌<◌, ◌≤◌, ◌-◌, IfOk, IfSome, IsTrue, OnOk};
 ghost use Rattle.ts_search.specs.Leaps.{AreSplits, ExcludesInside};
 ghost use Rattle.ts_search.specs.LineOf.{Sought, line_of};
-ghost use Rattle.ts_search.specs.Posed.{MayAsk, MaySeek};
+ghost use Rattle.ts_search.specs.Posed.{MayBring, MaySeek};
 ghost use Rattle.ts_search.specs.Shown.{AreHeld};
 ghost use Rattle.ts_search.specs.Views.{problem_of, sought_of};
 
@@ -55,11 +55,11 @@ impl Pace {
         cells: &Boxed,
     ) -> Result<TreeLine, Memory>
         requires objective { MaySeek seeking.now }
-        requires asked { MayAsk (problem_of seeking.now) tables.old cells.now.present }
+        requires asked { MayBring (problem_of seeking.now) tables.old.machines cells.now.present }
         requires held { AreHeld (problem_of seeking.now) witnesses.old }
         requires inside { IsTrue self.old.leaps → ExcludesInside (sought_of seeking.now) }
         requires ahead { AreSplits (sought_of seeking.now) self.old.ahead cells.now.present }
-        ensures same { tables.new ≡ tables.old }
+        ensures machines { tables.new.machines ≡ tables.old.machines }
         ensures held { OnOk result (AreHeld (problem_of seeking.now) witnesses.new) }
         ensures leaps { self.new.leaps ≡ self.old.leaps }
         ensures ahead { OnOk result (AreSplits (sought_of seeking.now) self.new.ahead cells.now.present) }

@@ -1,6 +1,6 @@
 //! A model, and what its requirements exclude on a box.
 
-ghost use Rattle.std.specs.Prelude.{◌≡◌, ◌≤◌, Contains, IfOk};
+ghost use Rattle.std.specs.Prelude.{◌≡◌, ◌≤◌, Contains, IfOk, OnOk};
 ghost use Rattle.ts_base.specs.Limits.{most_requirements};
 ghost use Rattle.ts_compile.specs.Programs.{IsProgramOf};
 ghost use Rattle.ts_domain.specs.BoxSeries.{IsCell, cell_of};
@@ -9,7 +9,7 @@ ghost use Rattle.ts_filter.specs.KeptCells.{AreKept};
 ghost use Rattle.ts_model.specs.Views.{model_parts};
 ghost use Rattle.ts_search.specs.Drops.{least, next_drop};
 ghost use Rattle.ts_search.specs.LineOf.{inner, last, is_refuted_at, requirements};
-ghost use Rattle.ts_search.specs.Posed.{IsPosed, MayAsk};
+ghost use Rattle.ts_search.specs.Posed.{IsPosed, MayAsk, MayBring};
 ghost use Rattle.ts_search.specs.Shown.{AreShown};
 ghost use Rattle.ts_search.specs.Views.{search_of};
 ghost use Rattle.ts_spans.specs.Machines.{automata_in};
@@ -44,6 +44,20 @@ impl<'a> Problem<'a> {
         ensures few { result ≤ most_requirements }
     {
         self.model.requirements.len() as u32
+    }
+
+    /// Brings the tables to a box.
+    pub(crate) fn bring_tables(
+        &self,
+        alloc: Global,
+        tables: &mut AllTables<'_>,
+        cells: &Boxed,
+    ) -> Result<(), Memory>
+        requires asked { MayBring self.now tables.old.machines cells.now.present }
+        ensures machines { tables.new.machines ≡ tables.old.machines }
+        ensures asked { OnOk result (MayAsk self.now tables.new cells.now.present) }
+    {
+        tables.bring(alloc, cells)
     }
 
     /// Whether requirement `j`, counted from 1, is refuted at the last cell. No table is asked where its witness meets
@@ -148,7 +162,7 @@ pub(crate) fn tables_of<'a>(
     p: &'a Program,
 ) -> Result<AllTables<'a>, Memory>
     requires { IsProgramOf p.now m.now }
-    ensures { IfOk result (λ t. t ≡ automata_in (model_parts m.now)) }
+    ensures { IfOk result (λ t. t.machines ≡ automata_in (model_parts m.now)) }
 {
     AllTables::new(alloc, p.machines(), &m.cells)
 }

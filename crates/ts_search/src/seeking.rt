@@ -2,7 +2,7 @@
 
 ghost use Rattle.std.specs.Prelude.{◌≡◌, IfOk, OnOk};
 ghost use Rattle.ts_search.specs.LineOf.{line_of};
-ghost use Rattle.ts_search.specs.Posed.{MayAsk, MaySeek};
+ghost use Rattle.ts_search.specs.Posed.{MayBring, MaySeek};
 ghost use Rattle.ts_search.specs.Shown.{AreHeld};
 ghost use Rattle.ts_search.specs.Views.{problem_of, sought_of};
 
@@ -35,7 +35,7 @@ impl<'a> Seeking<'a> {
         }
     }
 
-    /// The line of a box. The witnesses are brought into it.
+    /// The line of a box. The tables and the witnesses are brought to it.
     pub(crate) fn line(
         &self,
         alloc: Global,
@@ -44,12 +44,13 @@ impl<'a> Seeking<'a> {
         cells: &Boxed,
     ) -> Result<TreeLine, Memory>
         requires objective { MaySeek self.now }
-        requires asked { MayAsk (problem_of self.now) tables.old cells.now.present }
+        requires asked { MayBring (problem_of self.now) tables.old.machines cells.now.present }
         requires held { AreHeld (problem_of self.now) witnesses.old }
-        ensures same { tables.new ≡ tables.old }
+        ensures machines { tables.new.machines ≡ tables.old.machines }
         ensures held { OnOk result (AreHeld (problem_of self.now) witnesses.new) }
         ensures line { IfOk result (λ l. l ≡ line_of (sought_of self.now) cells.now.present) }
     {
+        self.problem().bring_tables(alloc, tables, cells)?;
         witnesses.bring(self.problem(), cells);
         match self {
             Seeking::Best(contest, found) => {

@@ -45,10 +45,10 @@ pub(crate) fn grow(
 ) -> Result<Tree, Memory>
     requires objective { HasObjective contest.now }
     requires posed { IsPosed contest.now.problem }
-    requires tables { AreTablesOf contest.now.problem tables.old }
+    requires tables { AreTablesOf contest.now.problem tables.old.machines }
     requires held { AreHeld contest.now.problem witnesses.old }
     requires inside { IsTrue leaps → (found : Option Find) → ExcludesInside (TheBest (contest_of contest.now) found) }
-    ensures same { tables.new ≡ tables.old }
+    ensures machines { tables.new.machines ≡ tables.old.machines }
     ensures turns { IfOk result (λ t. state_of t
         ≡ turns (contest_of contest.now) budget (start (contest_of contest.now))) }
 {
@@ -81,11 +81,11 @@ fn treat(
     requires posed { IsPosed contest.now.problem }
     requires parts { AllByRecursion (λ b. IsPart b (search_of contest.now.problem).model.cells)
         tree.old.frontier.boxes }
-    requires tables { AreTablesOf contest.now.problem tables.old }
+    requires tables { AreTablesOf contest.now.problem tables.old.machines }
     requires held { AreHeld contest.now.problem witnesses.old }
     requires paced { IsPaced (TheBest (contest_of contest.now) (find_of tree.old.found)) pace.old
         tree.old.frontier.boxes }
-    ensures same { tables.new ≡ tables.old }
+    ensures machines { tables.new.machines ≡ tables.old.machines }
     ensures held { OnOk result (AreHeld contest.now.problem witnesses.new) }
     ensures turn { OnOk result
         (state_of tree.new ≡ turn (contest_of contest.now) (state_of tree.old)) }

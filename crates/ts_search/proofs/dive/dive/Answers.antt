@@ -38,9 +38,9 @@ loop-k-init c =
     let settled = subst (λ b. IsSettled s b c.settle.new.cells.present true) (ap (λ z. z.present) c.in_ok-cells.ensures ∙ c.deref.ensures.value)
     (subst (IsSettled s _ c.settle.new.cells.present) c.if-not-branch.false c.in_ok-settle.ensures.settled) in
     record {
-      same = c.settle.ensures.same;
+      machines = c.settle.ensures.machines;
       held = c.in_ok-settle.ensures.held;
-      part = settled.part;
+      asked = c.in_ok-settle.ensures.asked;
       ends = ends_first s.model s.spans c.args.contest.now.goal c.settle.new.cells.present (length s.model.cells)
           (settled_all s s.model.cells c.settle.new.cells.present settled) refl;
     }
@@ -54,19 +54,12 @@ overflow_add-k-end c =
     let few = c.requires.posed.right.whole.few in omega (arith, end, few)
 
 -- the end of the loop over the cells is told by the number of cells of the box before it, which is that of the model
-pub keep_one-requires-clause-asked : goal.keep_one-requires-clause-asked
-keep_one-requires-clause-asked c = record {
-  posed = c.requires.posed;
-  part = c.loop-k.invariant.part;
-  tables = c.loop-k.invariant.same ∙ c.requires.tables;
-}
-
 pub keep_one-requires-clause-cell : goal.keep_one-requires-clause-cell
 keep_one-requires-clause-cell c =
     let s = search_of c.args.contest.now.problem in
     let end = end_is s c.settle.new.cells.present c.cells-k-end.result (settled_part s _ c.settle.new.cells.present _ c.in_ok-settle.ensures.settled)
     c.cells-k-end.ensures.count in
-    cell_there s c.loop-k.cells.present c.loop-k.k c.cells-k-end.result c.loop-k.invariant.part (omega arith) c.loop-k-test.true end
+    cell_there s c.loop-k.cells.present c.loop-k.k c.cells-k-end.result c.loop-k.invariant.asked.part (omega arith) c.loop-k-test.true end
 
 pub settle-requires-in-loop-k-clause-asked : goal.settle-requires-in-loop-k-clause-asked
 settle-requires-in-loop-k-clause-asked c =
@@ -75,10 +68,10 @@ settle-requires-in-loop-k-clause-asked c =
     c.cells-k-end.ensures.count in
     record {
       posed = c.requires.posed;
-      part = kept_inside s c.args.contest.now.goal c.loop-k.k c.loop-k.cells.present c.keep_one.new.cells.present c.loop-k.invariant.part
-          (cell_there s c.loop-k.cells.present c.loop-k.k c.cells-k-end.result c.loop-k.invariant.part (omega arith) c.loop-k-test.true end)
+      part = kept_inside s c.args.contest.now.goal c.loop-k.k c.loop-k.cells.present c.keep_one.new.cells.present c.loop-k.invariant.asked.part
+          (cell_there s c.loop-k.cells.present c.loop-k.k c.cells-k-end.result c.loop-k.invariant.asked.part (omega arith) c.loop-k-test.true end)
           c.in_ok-keep_one.ensures.kept;
-      tables = c.keep_one.ensures.same ∙ c.loop-k.invariant.same ∙ c.requires.tables;
+      tables = ap (λ z. z.machines) c.keep_one.ensures.same ∙ c.loop-k.invariant.asked.tables;
     }
 
 -- a requirement is refuted once a cell has kept its value
@@ -120,8 +113,8 @@ loop-k-preserved c =
     let settled = subst (IsSettled s _ _) c.if-not-branch-2.false c.in_ok-settle-2.ensures.settled in
     record {
       held = c.in_ok-settle-2.ensures.held;
-      same = c.settle-in-loop-k.ensures.same ∙ c.keep_one.ensures.same ∙ c.loop-k.invariant.same;
-      part = settled.part;
+      machines = c.settle-in-loop-k.ensures.machines ∙ ap (λ z. z.machines) c.keep_one.ensures.same ∙ c.loop-k.invariant.machines;
+      asked = c.in_ok-settle-2.ensures.asked;
       ends = ends_next s.model s.spans c.args.contest.now.goal c.loop-k.cells.present c.keep_one.new.cells.present c.settle-in-loop-k.new.cells.present
           n k _ below c.in_ok-keep_one.ensures.kept
           (settled_all s c.keep_one.new.cells.present c.settle-in-loop-k.new.cells.present settled) c.loop-k.invariant.ends;

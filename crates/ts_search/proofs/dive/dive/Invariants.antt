@@ -1,6 +1,6 @@
 use Rattle.std.proofs.Common.{◌≡◌, ◌+◌, ◌-◌, length}
-use Rattle.ts_filter.specs.Boxes.{IsPart}
 use Rattle.ts_search.specs.Dive.{dive}
+use Rattle.ts_search.specs.Posed.{MayAsk}
 use Rattle.ts_search.specs.Shown.{AreHeld}
 use Rattle.ts_search.specs.Views.{search_of}
 use Rattle.ts_search.proofs.DiveSteps.{EndsAs}
@@ -8,9 +8,9 @@ use Rattle.ts_search.proofs.dive.dive.Given as goal
 
 abbrev pub invariant-loop-k : goal.invariant-loop-k
 invariant-loop-k l = record {
-  same : l.tables ≡ l.fn.tables;
+  machines : l.tables.machines ≡ l.fn.tables.machines;
   held : AreHeld l.contest.problem l.witnesses;
-  part : IsPart l.cells.present (search_of l.contest.problem).model.cells;
+  asked : MayAsk l.contest.problem l.tables l.cells.present;
   ends : EndsAs (search_of l.contest.problem).model (search_of l.contest.problem).spans l.contest.goal
       (length (search_of l.contest.problem).model.cells + 1 - l.k) l.k
       l.cells.present (dive (search_of l.contest.problem).model (search_of l.contest.problem).spans l.contest.goal);

@@ -1,7 +1,7 @@
 use Rattle.std.proofs.Common.{◌≡◌}
 use Rattle.ts_model.specs.ModelParts.{total_of}
-use Rattle.ts_filter.specs.Boxes.{IsPart}
 use Rattle.ts_search.specs.Drops.{after_drops}
+use Rattle.ts_search.specs.Posed.{MayAsk}
 use Rattle.ts_search.specs.Shown.{AreShown}
 use Rattle.ts_search.specs.Views.{search_of}
 use Rattle.ts_search.proofs.dive.settle.Given as goal
@@ -9,9 +9,9 @@ use Rattle.ts_search.proofs.dive.settle.Given as goal
 -- the drops that are left are those of the first box
 abbrev pub invariant-loop-witnesses : goal.invariant-loop-witnesses
 invariant-loop-witnesses l = record {
-  tables : l.tables ≡ l.fn.tables;
+  machines : l.tables.machines ≡ l.fn.tables.machines;
   shown : AreShown l.problem l.witnesses l.cells.present;
-  part : IsPart l.cells.present (search_of l.problem).model.cells;
+  asked : MayAsk l.problem l.tables l.cells.present;
   same : after_drops (search_of l.problem).model (search_of l.problem).spans l.cells.present
       ≡ after_drops (search_of l.problem).model (search_of l.problem).spans l.fn.cells.present;
 }

@@ -7,7 +7,7 @@ use Rattle.ts_search.proofs.leap.go_down.Goals as goal
 
 pub loop-i-init : goal.loop-i-init
 loop-i-init c = record {
-  same = refl;
+  machines = refl;
   deep = ap length c.requires.first;
   down = down_first c.args.below.now c.requires.first;
   from = omega arith;
@@ -19,14 +19,16 @@ pub returns-in_default-clause-tried : goal.returns-in_default-clause-tried
 returns-in_default-clause-tried c =
     one_less_tried (search_of c.args.problem.now) c.loop-i.i c.saturating_sub.result c.args.below.now.present c.saturating_sub.ensures c.loop-i.invariant.tried
 
-pub takes_free_values-requires-clause-asked : goal.takes_free_values-requires-clause-asked
-takes_free_values-requires-clause-asked c =
+pub bring_tables-requires : goal.bring_tables-requires
+bring_tables-requires c =
     let b = c.args.below.now.present in
     record {
-      posed = c.requires.asked.posed;
-      part = part_below b c.loop-i.below.present c.loop-i.i (lowest b c.loop-i.below c.loop-i.invariant.down c.loop-i.i c.loop-i.invariant.deep)
-          (search_of c.args.problem.now).model.cells c.requires.asked.part;
-      tables = c.loop-i.invariant.same ∙ c.requires.asked.tables;
+      asked = record {
+        posed = c.requires.asked.posed;
+        part = part_below b c.loop-i.below.present c.loop-i.i (lowest b c.loop-i.below c.loop-i.invariant.down c.loop-i.i c.loop-i.invariant.deep)
+            (search_of c.args.problem.now).model.cells c.requires.asked.part;
+        tables = c.loop-i.invariant.machines ∙ c.requires.asked.tables;
+      };
     }
 
 pub keep_low-requires-clause-stays : goal.keep_low-requires-clause-stays
@@ -47,7 +49,7 @@ loop-i-preserved c =
     let low = ap (λ z. z.present) c.in_ok-keep_low.ensures.ok in
     let trail = ap (λ z. z.earlier) c.in_ok-keep_low.ensures.ok in
     record {
-      same = c.takes_free_values.ensures.same ∙ c.loop-i.invariant.same;
+      machines = ap (λ z. z.machines) c.takes_free_values.ensures.same ∙ c.bring_tables.ensures.machines ∙ c.loop-i.invariant.machines;
       deep = longer b w c.loop-i.invariant.down new trail c.loop-i.i c.loop-i.invariant.deep;
       down = down_next b w c.loop-i.invariant.down new trail c.loop-i.i c.loop-i.invariant.deep
           (next_below b w.present c.loop-i.i is new.present k t _ (to_z-of_z w64 t (search rules)) c.in-Some.ensures low);

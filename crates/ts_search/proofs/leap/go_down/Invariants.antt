@@ -6,7 +6,7 @@ use Rattle.ts_search.proofs.leap.go_down.Given as goal
 
 abbrev pub invariant-loop-i : goal.invariant-loop-i
 invariant-loop-i l = record {
-  same : l.tables ≡ l.fn.tables;
+  machines : l.tables.machines ≡ l.fn.tables.machines;
   deep : length l.below.earlier ≡ l.i;
   down : LeadDown l.fn.below.present l.below;
   from : 1 ≤ l.from;

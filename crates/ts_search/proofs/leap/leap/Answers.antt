@@ -18,7 +18,7 @@ line-requires-clause-asked c =
       part = part_below b c.undo.new.self.present c.loop-far.far
           (back_there b c.loop-far.below c.loop-far.invariant.down c.undo.new.self c.loop-far.far c.loop-far.invariant.there c.undo.ensures)
           (search_of (problem_of c.args.seeking.now)).model.cells c.requires.asked.part;
-      tables = c.loop-far.invariant.same ∙ c.requires.asked.tables;
+      tables = c.loop-far.invariant.machines ∙ c.requires.asked.tables;
     }
 
 pub returns-in-Split-clause-splits : goal.returns-in-Split-clause-splits
@@ -32,7 +32,7 @@ pub loop-far-preserved : goal.loop-far-preserved
 loop-far-preserved c =
     let b = c.args.cells.now.present in
     record {
-      same = c.line.ensures.same ∙ c.loop-far.invariant.same;
+      machines = c.line.ensures.machines ∙ c.loop-far.invariant.machines;
       held = c.in_ok-line.ensures.held;
       few = (let few = c.loop-far.invariant.few in omega (arith, few));
       there = (let size = shorter b c.loop-far.below c.loop-far.invariant.down c.undo.new.self c.loop-far.far c.loop-far.invariant.there c.undo.ensures in

@@ -6,7 +6,7 @@ use Rattle.ts_search.proofs.leap.leap.Given as goal
 
 abbrev pub invariant-loop-far : goal.invariant-loop-far
 invariant-loop-far l = record {
-  same : l.tables ≡ l.fn.tables;
+  machines : l.tables.machines ≡ l.fn.tables.machines;
   held : AreHeld (problem_of l.seeking) l.witnesses;
   few : l.far ≤ 64;
   there : l.far ≤ length l.below.earlier;

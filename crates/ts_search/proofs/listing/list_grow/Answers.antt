@@ -16,7 +16,7 @@ loop-init c =
     let first = list_first s c.new-2.result.items c.new-3.result c.in_ok-root.root.present _ c.new-2.ensures.items c.new-3.ensures root
     (ap (map (λ x. x.items)) c.new-4.ensures.items) in
     record {
-      same = refl;
+      machines = refl;
       turned = list_none s c.args.count c.args.budget _ first;
       held = c.requires.held;
       parts = first_parts s.model.cells c.new-3.result.boxes c.requires.posed.right.box (ap (λ w. w.boxes) c.new-3.ensures ∙ ap (λ b. b ∷ []) root);
@@ -42,7 +42,7 @@ loop-preserved c =
     let turn = list_room s c.args.count (list_state_of c.loop.tree) (list_state_of c.list_treat.new.tree) c.in_ok-list_treat.ensures.turn
     (room_for c.args.count c.loop.tree.listed.items (omega (arith, out, is, long))) in
     record {
-      same = c.list_treat.ensures.same ∙ c.loop.invariant.same;
+      machines = c.list_treat.ensures.machines ∙ c.loop.invariant.machines;
       turned = list_more s c.args.count c.args.budget c.loop.counter (list_state_of c.loop.tree) (list_state_of c.list_treat.new.tree) _
           c.loop-test.true turn c.loop.invariant.turned;
       held = c.in_ok-list_treat.ensures.held;

@@ -10,7 +10,7 @@ use Rattle.ts_search.proofs.listing.list_grow.Given as goal
 
 abbrev pub invariant-loop : goal.invariant-loop
 invariant-loop l = record {
-  same : l.tables ≡ l.fn.tables;
+  machines : l.tables.machines ≡ l.fn.tables.machines;
   turned : list_turns (search_of l.problem) l.count (l.budget - l.counter) (list_state_of l.tree)
       ≡ list_turns (search_of l.problem) l.count l.budget (list_start (search_of l.problem));
   held : AreHeld l.problem l.witnesses;

@@ -14,7 +14,7 @@ loop-init c =
     let root = ap (λ z. z.present) c.in_ok-root.ensures ∙ c.deref.ensures.value in
     let first = grow_first s c.new-2.result.items c.new-3.result c.in_ok-root.root.present c.new-2.ensures.items c.new-3.ensures root in
     record {
-      same = refl;
+      machines = refl;
       turned = grow_none s c.args.budget _ first;
       held = c.requires.held;
       parts = first_parts s.search.model.cells c.new-3.result.boxes c.requires.posed.right.box (ap (λ w. w.boxes) c.new-3.ensures ∙ ap (λ b. b ∷ []) root);
@@ -31,7 +31,7 @@ pub loop-preserved : goal.loop-preserved
 loop-preserved c =
     let s = contest_of c.args.contest.now in
     record {
-      same = c.treat.ensures.same ∙ c.loop.invariant.same;
+      machines = c.treat.ensures.machines ∙ c.loop.invariant.machines;
       turned = grow_more s c.args.budget c.loop.counter (state_of c.loop.tree) (state_of c.treat.new.tree) _ c.loop-test.true
           c.in_ok-treat.ensures.turn c.loop.invariant.turned;
       held = c.in_ok-treat.ensures.held;

@@ -11,7 +11,7 @@ use Rattle.ts_search.proofs.tree.grow.Given as goal
 -- the turns that are left lead where all lead
 abbrev pub invariant-loop : goal.invariant-loop
 invariant-loop l = record {
-  same : l.tables ≡ l.fn.tables;
+  machines : l.tables.machines ≡ l.fn.tables.machines;
   turned : turns (contest_of l.contest) (l.budget - l.counter) (state_of l.tree)
       ≡ turns (contest_of l.contest) l.budget (start (contest_of l.contest));
   held : AreHeld l.contest.problem l.witnesses;

@@ -11,7 +11,7 @@ use Rattle.ts_search.proofs.contest.Contest.is_cut_by.Goals as goal
 
 pub cut_at_end-requires-clause-there : goal.cut_at_end-requires-clause-there
 cut_at_end-requires-clause-there c =
-    objective_long c.args.self.now c.requires.asked.posed c.requires.objective c.args.tables.now c.requires.asked.tables
+    objective_long c.args.self.now c.requires.asked.posed c.requires.objective c.args.tables.now.machines c.requires.asked.tables
 
 pub cut_at_end-requires-clause-some : goal.cut_at_end-requires-clause-some
 cut_at_end-requires-clause-some c =
@@ -22,15 +22,15 @@ cut_at_end-requires-clause-some c =
 pub cut_at_end-requires-clause-looks : goal.cut_at_end-requires-clause-looks
 cut_at_end-requires-clause-looks c =
     let q = c.args.self.now in
-    looks_of q.problem c.requires.asked.posed c.args.cells.now.present c.requires.asked.part c.args.tables.now q.objective c.requires.asked.tables
+    looks_of q.problem c.requires.asked.posed c.args.cells.now.present c.requires.asked.part c.args.tables.now.machines q.objective c.requires.asked.tables
 
 pub returns-clause-told : goal.returns-clause-told
 returns-clause-told c =
     let q = c.args.self.now in let b = c.args.cells.now.present in
-    IfOk-weaker c.cut_at_end.result (λ told. OfTerm c.args.tables.now q.objective (λ a. IsTrue told ↔ Cuts q.goal c.args.bar (term_span a (length b) b)))
+    IfOk-weaker c.cut_at_end.result (λ told. OfTerm c.args.tables.now.machines q.objective (λ a. IsTrue told ↔ Cuts q.goal c.args.bar (term_span a (length b) b)))
     (λ told. told ≡ is_cut_at (contest_of q) (last (search_of q.problem)) b c.args.bar)
-    (λ told g. told_in q.problem c.args.tables.now q.objective (λ a. IsTrue told ↔ Cuts q.goal c.args.bar (term_span a (length b) b))
+    (λ told g. told_in q.problem c.args.tables.now.machines q.objective (λ a. IsTrue told ↔ Cuts q.goal c.args.bar (term_span a (length b) b))
     (told ≡ is_cut_at (contest_of q) (last (search_of q.problem)) b c.args.bar) c.requires.asked.tables
-    (objective_long q c.requires.asked.posed c.requires.objective c.args.tables.now c.requires.asked.tables) g
+    (objective_long q c.requires.asked.posed c.requires.objective c.args.tables.now.machines c.requires.asked.tables) g
     (λ a there h. cut_told q c.requires.asked.posed c.requires.objective b c.requires.asked.part a there c.args.bar told h))
     c.cut_at_end.ensures.told

@@ -9,20 +9,20 @@ use Rattle.ts_search.proofs.contest.Contest.kept_value.Goals as goal
 
 pub kept_value-requires-clause-there : goal.kept_value-requires-clause-there
 kept_value-requires-clause-there c =
-    objective_long c.args.self.now c.requires.asked.posed c.requires.objective c.args.tables.now c.requires.asked.tables
+    objective_long c.args.self.now c.requires.asked.posed c.requires.objective c.args.tables.now.machines c.requires.asked.tables
 
 pub kept_value-requires-clause-looks : goal.kept_value-requires-clause-looks
 kept_value-requires-clause-looks c =
     let q = c.args.self.now in
-    looks_of q.problem c.requires.asked.posed c.args.cells.now.present c.requires.asked.part c.args.tables.now q.objective c.requires.asked.tables
+    looks_of q.problem c.requires.asked.posed c.args.cells.now.present c.requires.asked.part c.args.tables.now.machines q.objective c.requires.asked.tables
 
 pub returns-clause-kept : goal.returns-clause-kept
 returns-clause-kept c =
     let q = c.args.self.now in let b = c.args.cells.now.present in let s = search_of q.problem in
-    IfOk-weaker c.kept_value.result (λ v. OfTerm c.args.tables.now q.objective (λ a. IsKept a q.goal c.args.k b v))
+    IfOk-weaker c.kept_value.result (λ v. OfTerm c.args.tables.now.machines q.objective (λ a. IsKept a q.goal c.args.k b v))
     (λ v. v ≡ kept_value s.model s.spans q.goal c.args.k b)
-    (λ v g. told_in q.problem c.args.tables.now q.objective (λ a. IsKept a q.goal c.args.k b v)
+    (λ v g. told_in q.problem c.args.tables.now.machines q.objective (λ a. IsKept a q.goal c.args.k b v)
     (v ≡ kept_value s.model s.spans q.goal c.args.k b) c.requires.asked.tables
-    (objective_long q c.requires.asked.posed c.requires.objective c.args.tables.now c.requires.asked.tables) g
+    (objective_long q c.requires.asked.posed c.requires.objective c.args.tables.now.machines c.requires.asked.tables) g
     (λ a there h. kept_told q c.requires.asked.posed c.requires.objective b c.requires.asked.part a there c.args.k v c.requires.cell h))
     c.kept_value.ensures.kept

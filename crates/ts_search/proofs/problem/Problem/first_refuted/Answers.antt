@@ -13,13 +13,13 @@ use Rattle.ts_search.proofs.problem.Problem.first_refuted.Goals as goal
 pub first_refuted-requires-clause-there : goal.first_refuted-requires-clause-there
 first_refuted-requires-clause-there c =
     let q = c.args.self.now in let r = c.index-require.result.now in
-    tables_long q c.requires.asked.posed c.args.tables.now r.term c.requires.asked.tables
+    tables_long q c.requires.asked.posed c.args.tables.now.machines r.term c.requires.asked.tables
     (required_there q c.requires.asked.posed c.args.j r (required_is q c.requires.asked.posed c.args.j r c.requires.from c.requires.to c.index-require.ensures))
 
 pub first_refuted-requires-clause-looks : goal.first_refuted-requires-clause-looks
 first_refuted-requires-clause-looks c =
     let q = c.args.self.now in
-    looks_of q c.requires.asked.posed c.args.cells.now.present c.requires.asked.part c.args.tables.now c.index-require.result.now.term c.requires.asked.tables
+    looks_of q c.requires.asked.posed c.args.cells.now.present c.requires.asked.part c.args.tables.now.machines c.index-require.result.now.term c.requires.asked.tables
 
 -- its witness meets it
 pub returns-then-shows-clause-found : goal.returns-then-shows-clause-found
@@ -31,10 +31,10 @@ pub returns-clause-found : goal.returns-clause-found
 returns-clause-found c =
     let q = c.args.self.now in let b = c.args.cells.now.present in let r = c.index-require.result.now in
     let is = required_is q c.requires.asked.posed c.args.j r c.requires.from c.requires.to c.index-require.ensures in
-    IfOk-weaker c.first_refuted.result (λ found. OfTerm c.args.tables.now r.term (λ a. IsFirstCell a (Refutes r.op r.bound) b found))
+    IfOk-weaker c.first_refuted.result (λ found. OfTerm c.args.tables.now.machines r.term (λ a. IsFirstCell a (Refutes r.op r.bound) b found))
     (λ found. found ≡ least (λ p. is_refuted_at (search_of q) c.args.j p b) (inner (search_of q)) 1)
-    (λ found g. told_in q c.args.tables.now r.term (λ a. IsFirstCell a (Refutes r.op r.bound) b found)
+    (λ found g. told_in q c.args.tables.now.machines r.term (λ a. IsFirstCell a (Refutes r.op r.bound) b found)
     (found ≡ least (λ p. is_refuted_at (search_of q) c.args.j p b) (inner (search_of q)) 1) c.requires.asked.tables
-    (tables_long q c.requires.asked.posed c.args.tables.now r.term c.requires.asked.tables (required_there q c.requires.asked.posed c.args.j r is)) g
+    (tables_long q c.requires.asked.posed c.args.tables.now.machines r.term c.requires.asked.tables (required_there q c.requires.asked.posed c.args.j r is)) g
     (λ a there h. first_refuted_told q c.requires.asked.posed b c.requires.asked.part c.args.j r a c.requires.from is there found h))
     c.first_refuted.ensures.found

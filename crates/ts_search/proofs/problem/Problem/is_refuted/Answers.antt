@@ -13,7 +13,7 @@ use Rattle.ts_search.proofs.problem.Problem.is_refuted.Goals as goal
 pub refuted-requires-clause-there : goal.refuted-requires-clause-there
 refuted-requires-clause-there c =
     let q = c.args.self.now in let r = c.index-require.result.now in
-    tables_long q c.requires.asked.posed c.args.tables.now r.term c.requires.asked.tables
+    tables_long q c.requires.asked.posed c.args.tables.now.machines r.term c.requires.asked.tables
     (required_there q c.requires.asked.posed c.args.j r (required_is q c.requires.asked.posed c.args.j r c.requires.from c.requires.to c.index-require.ensures))
 
 pub refuted-requires-clause-cell : goal.refuted-requires-clause-cell
@@ -28,7 +28,7 @@ refuted-requires-clause-usable c = λ a is plain. c.cells.ensures.count
 pub refuted-requires-clause-looks : goal.refuted-requires-clause-looks
 refuted-requires-clause-looks c =
     let q = c.args.self.now in
-    looks_of q c.requires.asked.posed c.args.cells.now.present c.requires.asked.part c.args.tables.now c.index-require.result.now.term c.requires.asked.tables
+    looks_of q c.requires.asked.posed c.args.cells.now.present c.requires.asked.part c.args.tables.now.machines c.index-require.result.now.term c.requires.asked.tables
 
 -- its witness meets it
 pub returns-then-shows-clause-told : goal.returns-then-shows-clause-told
@@ -41,11 +41,11 @@ pub returns-clause-told : goal.returns-clause-told
 returns-clause-told c =
     let q = c.args.self.now in let b = c.args.cells.now.present in let r = c.index-require.result.now in
     let is = required_is q c.requires.asked.posed c.args.j r c.requires.from c.requires.to c.index-require.ensures in
-    IfOk-weaker c.refuted.result (λ told. OfTerm c.args.tables.now r.term (λ a. IsTrue told ↔ Refutes r.op r.bound (term_span a c.cells.result b)))
+    IfOk-weaker c.refuted.result (λ told. OfTerm c.args.tables.now.machines r.term (λ a. IsTrue told ↔ Refutes r.op r.bound (term_span a c.cells.result b)))
     (λ told. told ≡ is_refuted_at (search_of q) c.args.j (last (search_of q)) b)
-    (λ told g. told_in q c.args.tables.now r.term (λ a. IsTrue told ↔ Refutes r.op r.bound (term_span a c.cells.result b))
+    (λ told g. told_in q c.args.tables.now.machines r.term (λ a. IsTrue told ↔ Refutes r.op r.bound (term_span a c.cells.result b))
     (told ≡ is_refuted_at (search_of q) c.args.j (last (search_of q)) b) c.requires.asked.tables
-    (tables_long q c.requires.asked.posed c.args.tables.now r.term c.requires.asked.tables (required_there q c.requires.asked.posed c.args.j r is)) g
+    (tables_long q c.requires.asked.posed c.args.tables.now.machines r.term c.requires.asked.tables (required_there q c.requires.asked.posed c.args.j r is)) g
     (λ a there h. refuted_told q c.requires.asked.posed b c.requires.asked.part c.args.j r a c.requires.from is there c.cells.result told
     c.cells.ensures.count h))
     c.refuted.ensures.told

@@ -13,7 +13,7 @@ use Rattle.ts_search.proofs.problem.Problem.next_drop.Goals as goal
 pub next_drop-requires-clause-machines : goal.next_drop-requires-clause-machines
 next_drop-requires-clause-machines c =
     let q = c.args.self.now in
-    let many = tables_count q c.requires.asked.posed c.args.tables.now c.requires.asked.tables in
+    let many = tables_count q c.requires.asked.posed c.args.tables.now.machines c.requires.asked.tables in
     let entries = term_count q c.requires.asked.posed in
     let few = c.requires.asked.posed.terms in omega (arith, many, entries, few)
 
@@ -22,26 +22,26 @@ next_drop-requires-clause-requirements c = let few = c.requires.asked.posed.requ
 
 pub next_drop-requires-clause-terms : goal.next_drop-requires-clause-terms
 next_drop-requires-clause-terms c =
-    subst (λ n. AllByRecursion (λ r. r.term < n) c.deref.result.now) (sym (tables_count c.args.self.now c.requires.asked.posed c.args.tables.now c.requires.asked.tables))
+    subst (λ n. AllByRecursion (λ r. r.term < n) c.deref.result.now) (sym (tables_count c.args.self.now c.requires.asked.posed c.args.tables.now.machines c.requires.asked.tables))
     (subst (AllByRecursion (λ r. r.term < length (search_of c.args.self.now).model.terms)) (sym c.deref.ensures.value)
     c.requires.asked.posed.right.whole.requirements)
 
 pub next_drop-requires-clause-looks : goal.next_drop-requires-clause-looks
 next_drop-requires-clause-looks c =
     let q = c.args.self.now in
-    each_looks q c.requires.asked.posed c.args.cells.now.present c.requires.asked.part c.args.tables.now c.requires.asked.tables
+    each_looks q c.requires.asked.posed c.args.cells.now.present c.requires.asked.part c.args.tables.now.machines c.requires.asked.tables
 
 pub next_drop-requires-clause-kept : goal.next_drop-requires-clause-kept
 next_drop-requires-clause-kept c =
     let q = c.args.self.now in let b = c.args.cells.now.present in
-    subst (λ rs. AreKept rs (spans_of c.args.tables.now) b c.args.kept.now) (sym c.deref.ensures.value)
+    subst (λ rs. AreKept rs (spans_of c.args.tables.now.machines) b c.args.kept.now) (sym c.deref.ensures.value)
     (subst (λ ms. AreKept q.model.now.requirements.items (spans_of ms) b c.args.kept.now) (sym c.requires.asked.tables) c.requires.kept)
 
 pub returns-clause-found : goal.returns-clause-found
 returns-clause-found c =
     let q = c.args.self.now in let b = c.args.cells.now.present in
     IfOk-weaker c.next_drop.result
-    (λ found. IsFirstDrop c.deref.result.now (spans_of c.args.tables.now) b found)
+    (λ found. IsFirstDrop c.deref.result.now (spans_of c.args.tables.now.machines) b found)
     (λ found. found ≡ next_drop (search_of q).model (search_of q).spans b)
     (λ found h. next_drop_told q c.requires.asked.posed b c.requires.asked.part found
     (subst (λ rs. IsFirstDrop rs (search_of q).spans b found) c.deref.ensures.value

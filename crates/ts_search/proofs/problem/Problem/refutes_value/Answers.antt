@@ -18,7 +18,7 @@ use Rattle.ts_search.proofs.problem.Problem.refutes_value.Goals as goal
 pub refuted_value-requires-clause-looks : goal.refuted_value-requires-clause-looks
 refuted_value-requires-clause-looks c =
     let q = c.args.self.now in
-    looks_of q c.requires.asked.posed c.args.cells.now.present c.requires.asked.part c.args.tables.now c.index-require.result.now.term c.requires.asked.tables
+    looks_of q c.requires.asked.posed c.args.cells.now.present c.requires.asked.part c.args.tables.now.machines c.index-require.result.now.term c.requires.asked.tables
 
 pub returns-clause-told : goal.returns-clause-told
 returns-clause-told c =
@@ -26,10 +26,10 @@ returns-clause-told c =
     let at = only c.args.k c.args.v b in
     let is = required_is q c.requires.asked.posed c.args.j r c.requires.from c.requires.to c.index-require.ensures in
     IfOk-weaker c.refuted_value.result _ (λ told. told ≡ is_refuted_at (search_of q) c.args.j c.args.k at)
-    (λ told g. told_in q c.args.tables.now r.term (λ a. IsTrue told ↔ Refutes r.op r.bound (term_span a c.args.k at))
+    (λ told g. told_in q c.args.tables.now.machines r.term (λ a. IsTrue told ↔ Refutes r.op r.bound (term_span a c.args.k at))
     (told ≡ is_refuted_at (search_of q) c.args.j c.args.k at) c.requires.asked.tables
-    (tables_long q c.requires.asked.posed c.args.tables.now r.term c.requires.asked.tables (required_there q c.requires.asked.posed c.args.j r is))
-    (subst (λ z. OfTerm c.args.tables.now r.term (λ a. IsTrue told ↔ Refutes r.op r.bound (term_span a c.args.k (only c.args.k z b))))
+    (tables_long q c.requires.asked.posed c.args.tables.now.machines r.term c.requires.asked.tables (required_there q c.requires.asked.posed c.args.j r is))
+    (subst (λ z. OfTerm c.args.tables.now.machines r.term (λ a. IsTrue told ↔ Refutes r.op r.bound (term_span a c.args.k (only c.args.k z b))))
     (to_z-of_z w64 c.args.v (search rules)) g)
     (λ a there h. value_told q b c.args.j r a c.requires.from is there c.args.k c.args.v c.requires.cell told
     (λ none. elim c.else-is_plain.branch [
