@@ -1,20 +1,21 @@
 -- The place of a number of a set, by how many there are up to it.
 use Rattle.std.proofs.Common.{◌≡◌, ℕ, zero, suc, ◌-◌, ◌≤◌, ℤ, pos, neg_ℤ, ◌+ℤ◌, ◌-ℤ◌, ◌≤ℤ◌}
-use Rattle.std.proofs.Common.{◌<ℤ◌, inl, inr, true, false, cond, Some, List, [], ◌∷◌, ◌++◌, length}
+use Rattle.std.proofs.Common.{◌<ℤ◌, inl, inr, not, true, false, cond, Some, List, [], ◌∷◌, ◌++◌, length}
 use Rattle.std.proofs.Common.{sym, ap, ◌∙◌, subst, arith, slice_get, append-nil}
 use Rattle.std.proofs.lemmas.Int.{ints, to_z-of_z}
 use mir.Val.{SFits}
 use mir.Syntax.{w64}
 use Rattle.std.specs.Prelude.{filter, int_le, int_lt, Contains}
+use Rattle.std.specs.Ordering.{int_eq}
 use Rattle.ts_domain.specs.declared.interval.Interval.{Interval}
 use Rattle.ts_domain.specs.declared.marks.Mark.{Mark}
 use Rattle.ts_domain.specs.declared.marks.Node.{Node}
-use Rattle.ts_domain.specs.Kept.{values_up_to}
+use Rattle.ts_domain.specs.Kept.{values_up_to, values_above, values_without}
 use Rattle.ts_domain.specs.Marks.{gain, gain_of, MarksFrom, numbers}
 use Rattle.ts_domain.specs.Pieces.{values_in, IsMarked}
 use Rattle.ts_domain.specs.Values.{IsRising, IsRange, values_of}
 use Rattle.ts_domain.proofs.Sets.{contains_cons, nothing_in, each_contains, filter_none, rising_filter, le_true, le_false}
-use Rattle.ts_domain.proofs.BoxLaws.{contains_up_to}
+use Rattle.ts_domain.proofs.BoxLaws.{contains_up_to, contains_above, contains_without}
 use Rattle.ts_domain.proofs.Runs.{in_between}
 use Rattle.ts_domain.proofs.MarkLaws.{mark_map, all_before, all_behind, small_gain}
 use Rattle.ts_domain.proofs.MarkReads.{Opened, Summed, summed_marks}
@@ -24,7 +25,8 @@ use Rattle.ts_domain.proofs.MarkPlaces.{fewer, length-numbers}
 use Rattle.ts_domain.proofs.MarkedSets.{base_rises, base_few, marked_domain}
 use Rattle.ts_domain.proofs.Places.{small_is}
 use Rattle.ts_domain.proofs.CutLaws.{m, lt_is, not_lt}
-use Rattle.ts_domain.proofs.Stretches.{range_place, range_size}
+use Rattle.ts_domain.proofs.SameSets.{same_set}
+use Rattle.ts_domain.proofs.Stretches.{range_domain, range_place, range_size}
 
 abbrev bottom : ℤ
 bottom = neg_ℤ (pos 1000000)
@@ -146,3 +148,36 @@ pub place_in_range : (d : List ℤ) (r : Interval) (v : ℤ) (n : ℕ) → IsRan
 place_in_range d r v n is has e =
     let between = range_has d r v is has in let high = between.1 in let size = range_size d r is in
     range_place d r n is (omega (arith, ints, e, size, high)) ∙ ap (λ z. Some z) (omega (arith, ints, e))
+
+-- without an end a range is what lies above it, or below
+pub but_low : (d : List ℤ) (r : Interval) (v : ℤ) → IsRange d r → v ≡ r.low → values_above v d ≡ values_without v d
+but_low d r v is e =
+    let rise = (range_domain d r is).rising in
+    same_set (values_above v d) (values_without v d) (rising_filter (λ w. int_lt v w) d rise) (rising_filter (λ w. not (int_eq w v)) d rise) (λ w. (
+      λ h. let k = (contains_above v d w).0 h in (contains_without v d w).1 (k.0, λ same. below_itself v w k.1 same),
+      λ h.
+          let k = (contains_without v d w).0 h in let least = (range_has d r w is k.0).0 in
+          (contains_above v d w).1 (k.0, other_above v w (omega (arith, ints, least, e)) k.1),
+    ))
+  where
+    below_itself : (a b : ℤ) → a <ℤ b → b ≡ a → ⊥
+    below_itself a b lt same = omega (arith, ints, lt, same)
+
+    other_above : (a b : ℤ) → a ≤ℤ b → (b ≡ a → ⊥) → a <ℤ b
+    other_above a b le ne = grind (arith, ints, le, ne)
+
+pub but_high : (d : List ℤ) (r : Interval) (v : ℤ) → IsRange d r → v ≡ r.high → values_up_to (v -ℤ pos 1) d ≡ values_without v d
+but_high d r v is e =
+    let rise = (range_domain d r is).rising in let t = v -ℤ pos 1 in
+    same_set (values_up_to t d) (values_without v d) (rising_filter (λ w. int_le w t) d rise) (rising_filter (λ w. not (int_eq w v)) d rise) (λ w. (
+      λ h. let k = (contains_up_to t d w).0 h in (contains_without v d w).1 (k.0, λ same. above_itself v w k.1 same),
+      λ h.
+          let k = (contains_without v d w).0 h in let most = (range_has d r w is k.0).1 in
+          (contains_up_to t d w).1 (k.0, other_below v w (omega (arith, ints, most, e)) k.1),
+    ))
+  where
+    above_itself : (a b : ℤ) → b ≤ℤ (a -ℤ pos 1) → b ≡ a → ⊥
+    above_itself a b le same = omega (arith, ints, le, same)
+
+    other_below : (a b : ℤ) → b ≤ℤ a → (b ≡ a → ⊥) → b ≤ℤ (a -ℤ pos 1)
+    other_below a b le ne = grind (arith, ints, le, ne)

@@ -108,10 +108,10 @@ impl Boxed {
         ensures ok { OnOk result (self.new ≡ box_with k (values_without v) self.old) }
         ensures err { OnErr result (self.new ≡ self.old) }
     {
-        if self.cell(k).contains(v) {
-            self.take_out(k, v)
-        } else {
-            self.narrow(k, Keep::AllBut(v))
+        match self.cell(k).but_end(v) {
+            Some(keep) => self.narrow(k, keep),
+            None if self.cell(k).contains(v) => self.take_out(k, v),
+            None => self.narrow(k, Keep::AllBut(v)),
         }
     }
 

@@ -129,6 +129,20 @@ impl Domain {
         }
     }
 
+    /// What takes an end of a set that is one range out, so that it stays one, and needs no mark.
+    pub(crate) fn but_end(&self, v: i64) -> Option<Keep>
+        ensures { IfSome result (λ keep. values_kept keep self.now ≡ values_without v self.now) }
+    {
+        let range = self.as_range()?;
+        if v == range.low {
+            Some(Keep::Above(v))
+        } else if v == range.high {
+            Some(Keep::UpTo(v - 1))
+        } else {
+            None
+        }
+    }
+
     /// The number at place `i` in rising order, counted from 0.
     pub fn nth(&self, i: u64) -> i64
         requires { i < length self.now }
