@@ -19,7 +19,9 @@ use Rattle.ts_sweep.specs.Lanes.{no_lanes, greater_of}
 use Rattle.ts_sweep.specs.Packed.{unpacked, IsPacked}
 use Rattle.ts_sweep.specs.PackedLaws.{joined_packed, joined_is, packed_takes_none, none_unpacked}
 use Rattle.ts_sweep.specs.Moves.{IsFrontOf, IsClosingOf}
+use Rattle.ts_sweep.specs.Sides.{Sides, seen_hull}
 use Rattle.ts_sweep.specs.Sweeps.{total, passes}
+use Rattle.ts_sweep.proofs.SeenLaws.{seen_closed, seen_cond, seen_total}
 
 -- a value is passed where it compares as the letter says
 
@@ -64,7 +66,7 @@ module _ {X : Type 0} (both : X → X → X) (none : X) (lanes : X → List ℤ)
         | false ↦ sym (packed_takes_none n (lanes t) big (total_packed test f m before)) ∙ ap (λ z. hull_of_both z none_hull) rest
       ]
 
-  module _ (fit closable : X → Type 0) (front closing : X → ℤ → X) (cut : Cut) (closable_none : closable none) (closable_both : (a b : X) → closable a → closable b → closable (both a b)) (closable_front : (h : X) (v : ℤ) → fit h → IsSmall v → closable (front h v)) (front_is : (h : X) (v : ℤ) → fit h → IsSmall v → IsFrontOf cut n (lanes h) v (lanes (front h v))) (closing_is : (h : X) (w : ℤ) → closable h → IsSmall w → IsClosingOf cut n (lanes h) w (lanes (closing h w))) where
+  module _ (s : Sides) (fit closable : X → Type 0) (front closing : X → ℤ → X) (cut : Cut) (closable_none : closable none) (closable_both : (a b : X) → closable a → closable b → closable (both a b)) (closable_front : (h : X) (v : ℤ) → fit h → IsSmall v → closable (front h v)) (front_is : (h : X) (v : ℤ) → fit h → IsSmall v → IsFrontOf s cut n (lanes h) v (lanes (front h v))) (closing_is : (h : X) (w : ℤ) → closable h → IsSmall w → IsClosingOf s cut n (lanes h) w (lanes (closing h w))) where
     total_closable : (test : ℕ → Bool) (f : ℕ → X) (m : ℕ) → ((i : ℕ) → i < m → closable (f i)) → closable (total both none test f m)
     unfolding total
     total_closable test f zero h = closable_none
@@ -80,21 +82,24 @@ module _ {X : Type 0} (both : X → X → X) (none : X) (lanes : X → List ℤ)
         ((i : ℕ) → i < length hulls → IsSmall (value i)) → IsSmall w →
         IsPacked n (lanes (closing (total both none test (λ i. front (get_or hulls i none) (value i)) (length hulls)) w))
         × (unpacked (lanes (closing (total both none test (λ i. front (get_or hulls i none) (value i)) (length hulls)) w))
-        ≡ closed_hull cut
-        (hull_total (length hulls) (λ i. cond (test i) (front_hull cut (unpacked (lanes (get_or hulls i none))) (value i)) none_hull)) w)
+        ≡ seen_hull s (closed_hull cut
+        (hull_total (length hulls) (λ i. cond (test i) (front_hull cut (unpacked (lanes (get_or hulls i none))) (value i)) none_hull)) w))
     given_is test hulls value w fits small small_next =
         let f : ℕ → X = λ i. front (get_or hulls i none) (value i) in
-        let t = total both none test f (length hulls) in
-        let packs : (i : ℕ) → i < length hulls → IsPacked n (lanes (f i)) = λ i lt. (front_is (get_or hulls i none) (value i) (fits i lt) (small i lt)).0 in
-        let closes = closing_is t w (total_closable test f (length hulls) (λ i lt. closable_front (get_or hulls i none) (value i) (fits i lt) (small i lt)))
-        small_next in (
+        let fronts : ℕ → Hull = λ i. front_hull cut (unpacked (lanes (get_or hulls i none))) (value i) in
+        let m = length hulls in
+        let t = total both none test f m in
+        let packs : (i : ℕ) → i < m → IsPacked n (lanes (f i)) = λ i lt. (front_is (get_or hulls i none) (value i) (fits i lt) (small i lt)).0 in
+        let closes = closing_is t w (total_closable test f m (λ i lt. closable_front (get_or hulls i none) (value i) (fits i lt) (small i lt)))
+        small_next in
+        let seen_is : unpacked (lanes t) ≡ seen_hull s (hull_total m (λ i. cond (test i) (fronts i) none_hull)) =
+        total_is test f m packs
+        ∙ total_same m (λ i. cond (test i) (unpacked (lanes (f i))) none_hull) (λ i. seen_hull s (cond (test i) (fronts i) none_hull))
+        (λ i lt. ap (λ z. cond (test i) z none_hull) (front_is (get_or hulls i none) (value i) (fits i lt) (small i lt)).1
+        ∙ sym (seen_cond s (test i) (fronts i)))
+        ∙ sym (seen_total s m (λ i. cond (test i) (fronts i) none_hull)) in (
           closes.0,
-          closes.1
-              ∙ ap (λ z. closed_hull cut z w)
-              (total_is test f (length hulls) packs
-              ∙ total_same (length hulls) (λ i. cond (test i) (unpacked (lanes (f i))) none_hull)
-              (λ i. cond (test i) (front_hull cut (unpacked (lanes (get_or hulls i none))) (value i)) none_hull)
-              (λ i lt. ap (λ z. cond (test i) z none_hull) (front_is (get_or hulls i none) (value i) (fits i lt) (small i lt)).1)),
+          closes.1 ∙ ap (λ z. seen_hull s (closed_hull cut z w)) seen_is ∙ seen_closed s cut (hull_total m (λ i. cond (test i) (fronts i) none_hull)) w,
         )
 
 -- what a move gives to a next value from all values that it is taken for, as one closed hull of fronts, where hulls and values are small

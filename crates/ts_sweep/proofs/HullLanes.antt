@@ -1,5 +1,5 @@
 -- Small hulls in lanes: they stand for themselves, and are packed.
-use Rattle.std.proofs.Common.{◌≡◌, ◌⊎◌, inl, inr, ℕ, ◌+◌, ◌*◌, ◌<◌, ◌≤◌, ◌≤ℤ◌, ◌<ℤ◌, ℤ, pos, negsuc, neg_ℤ, Bool, true, false, cond, Option, None, Some, List, length, get_or, set, replicate, refl, sym, ap, subst, ◌∙◌, arith}
+use Rattle.std.proofs.Common.{◌≡◌, ◌⊎◌, inl, inr, ℕ, zero, suc, ◌+◌, ◌*◌, ◌<◌, ◌≤◌, ◌≤ℤ◌, ◌<ℤ◌, ℤ, pos, negsuc, neg_ℤ, Bool, true, false, cond, Option, None, Some, List, length, get_or, set, replicate, refl, sym, ap, subst, ◌∙◌, arith}
 use Rattle.std.proofs.lemmas.Bool.{and_parts, cases_lt}
 use Rattle.std.proofs.lemmas.Int.{ints}
 use Rattle.std.proofs.lemmas.List.{get_or-replicate, length-replicate}
@@ -26,7 +26,9 @@ use Rattle.ts_sweep.specs.PackedLaws.{same_ends, none_unpacked, beyond}
 use Rattle.ts_sweep.specs.FrontLaws.{upper_small, neg_small, neg_neg, above_least}
 use Rattle.ts_sweep.specs.Moves.{of_name, with_all}
 use Rattle.ts_sweep.specs.MoveLaws.{IsPackAt, all_packed, all_unpacked, front_none, set_at}
-use Rattle.ts_sweep.specs.Strided.{span_ends, lanes_of, greatest_lanes, IsPackable}
+use Rattle.ts_sweep.specs.Sides.{Sides, BothEnds, UpperEnds, LowerEnds, count_by, filled, lanes_by}
+use Rattle.ts_sweep.specs.SidesLaws.{lower_above, lower_ends, lower_length, upper_above, upper_ends, upper_length}
+use Rattle.ts_sweep.specs.Strided.{span_ends, lanes_of, IsPackable}
 use Rattle.ts_sweep.specs.Trees.{lane_of}
 use Rattle.ts_sweep.proofs.Replaced.{same_each}
 
@@ -85,6 +87,32 @@ zeros_some n = record {
   some = λ r lt. ap (λ e. has_some (ends_span e))
       (same_ends _ _ _ _ (get_or-replicate n (2 * r) (pos 0) (pos 0) (omega (arith, lt))) (get_or-replicate n (2 * r + 1) (pos 0) (pos 0) lt));
 }
+
+-- so with an end beside each
+
+zero_at : (n k : ℕ) → least <ℤ get_or (replicate n (pos 0)) k (pos 0)
+zero_at zero k = zero_above
+zero_at (suc n) zero = zero_above
+zero_at (suc n) (suc k) = zero_at n k
+
+pub zeros_by : (s : Sides) (n : ℕ) → AreSome (count_by s n) (lanes_by s (replicate n (pos 0)))
+zeros_by BothEnds n = zeros_some n
+zeros_by UpperEnds n =
+    let long = length-replicate n (pos 0) in
+    record {
+      len = let twice = upper_length (replicate n (pos 0)) in omega (arith, twice, long);
+      above = λ k lt. upper_above (replicate n (pos 0)) (zero_at n) k;
+      some = λ r lt. ap (λ e. has_some (ends_span e)) (upper_ends (replicate n (pos 0)) r (omega (arith, long, lt))
+          ∙ ap (λ x. ends (filled x) x) (get_or-replicate n r (pos 0) (pos 0) (omega (arith, lt))));
+    }
+zeros_by LowerEnds n =
+    let long = length-replicate n (pos 0) in
+    record {
+      len = let twice = lower_length (replicate n (pos 0)) in omega (arith, twice, long);
+      above = λ k lt. lower_above (replicate n (pos 0)) (zero_at n) k;
+      some = λ r lt. ap (λ e. has_some (ends_span e)) (lower_ends (replicate n (pos 0)) r (omega (arith, long, lt))
+          ∙ ap (λ x. ends x (filled x)) (get_or-replicate n r (pos 0) (pos 0) (omega (arith, lt))));
+    }
 
 -- the ends of a small span stand for it
 span_packs : (s : Span) → small_span s ≡ true → has_some s ≡ true → IsPackOf (span_ends s) s
@@ -160,86 +188,3 @@ front_same k n h v big p = go (some_hull h) refl
     go false e =
         ap (λ z. front_hull k z v) (ap unpacked (lanes_none n h e) ∙ none_unpacked n big) ∙ front_none k v
         ∙ sym (ap (λ b. cond b (hull_of (map_each (λ q. front_span q h v) k)) none_hull) e)
-
--- no lane is above the greatest number
-
-lane_below : (e : Ext) → small e ≡ true → lane_of e ≤ℤ pos 9223372036854775807
-lane_below NegInf h = grind (arith, ints)
-lane_below (Int x) h = let b = (small_bounds x h).1 in omega (arith, ints, b)
-lane_below PosInf h = grind (arith, ints)
-
-low_lane_below : (e : Ext) → small e ≡ true → lane_of (negated e) ≤ℤ pos 9223372036854775807
-low_lane_below NegInf h = grind (arith, ints)
-low_lane_below (Int x) h = let b = (neg_small x (small_bounds x h)).1 in omega (arith, ints, b)
-low_lane_below PosInf h = grind (arith, ints)
-
-same_below : (x y z : ℤ) → x ≡ y → y ≤ℤ z → x ≤ℤ z
-same_below x y z e h = omega (arith, ints, e, h)
-
-least_below : least ≤ℤ pos 9223372036854775807
-least_below = grind (arith, ints)
-
-zero_below : pos 0 ≤ℤ pos 0
-zero_below = grind (arith, ints)
-
-zero_most : pos 0 ≤ℤ pos 9223372036854775807
-zero_most = grind (arith, ints)
-
--- no lane is above it
-abbrev AreBelow : List ℤ → Type 0
-AreBelow xs = (k : ℕ) → get_or xs k (pos 0) ≤ℤ pos 9223372036854775807
-
-with_below : (n : ℕ) (xs : List ℤ) (o : Option ℕ) (e : Ends) → e.below ≤ℤ pos 9223372036854775807 → e.above ≤ℤ pos 9223372036854775807 → AreBelow xs →
-    AreBelow (with_ends_in xs o e)
-with_below n xs None e p q h k = h k
-with_below n xs (Some r) e p q h k =
-    set_at (λ z. z ≤ℤ pos 9223372036854775807) (set xs (2 * r) e.below) (2 * r + 1) k e.above q
-    (set_at (λ z. z ≤ℤ pos 9223372036854775807) xs (2 * r) k e.below p (h k))
-
-name_below : (s : Span) → small_span s ≡ true → ((span_ends s).below ≤ℤ pos 9223372036854775807) × ((span_ends s).above ≤ℤ pos 9223372036854775807)
-name_below s h = let p = and_parts (small s.lo) (small s.hi) h in (low_lane_below s.lo p.0, lane_below s.hi p.1)
-
-all_below : (n : ℕ) (xs : List ℤ) (h : Hull) → small_hull h ≡ true → AreBelow xs → AreBelow (with_all n xs (hull_ends h))
-all_below n xs h small below =
-    let s = small_spans h small in
-    let c = name_below h.c s.0 in
-    let e = name_below h.e s.1 in
-    let d = name_below h.d s.2 in
-    let f = name_below h.f s.3 in
-    let r = name_below h.r s.4 in
-    with_below n _ (place n R) (hull_ends h R) r.0 r.1 (with_below n _ (place n F) (hull_ends h F) f.0 f.1
-    (with_below n _ (place n D) (hull_ends h D) d.0 d.1 (with_below n _ (place n E) (hull_ends h E) e.0 e.1
-    (with_below n xs (place n C) (hull_ends h C) c.0 c.1 below))))
-
-below_greatest : (n : ℕ) (xs : List ℤ) → length xs ≡ n → AreBelow xs → IsUnder xs (greatest_lanes n)
-below_greatest n xs len below k = go (cases_lt k n)
-  where
-    long : length (greatest_lanes n) ≡ n
-    long = length-replicate n (pos 9223372036854775807)
-
-    go : (k < n) ⊎ (n ≤ k) → get_or xs k (pos 0) ≤ℤ get_or (greatest_lanes n) k (pos 0)
-    go (inl lt) = subst (λ z. get_or xs k (pos 0) ≤ℤ z) (sym (get_or-replicate n k (pos 9223372036854775807) (pos 0) lt)) (below k)
-    go (inr le) =
-        same_below _ (pos 0) _ (beyond xs k (omega (arith, len, le)))
-        (subst (λ z. pos 0 ≤ℤ z) (sym (beyond (greatest_lanes n) k (omega (arith, long, le)))) zero_below)
-
-same_lanes : (n : ℕ) (x : ℤ) → x ≤ℤ pos 9223372036854775807 → AreBelow (replicate n x)
-same_lanes n x h k = go (cases_lt k n)
-  where
-    long : length (replicate n x) ≡ n
-    long = length-replicate n x
-
-    go : (k < n) ⊎ (n ≤ k) → get_or (replicate n x) k (pos 0) ≤ℤ pos 9223372036854775807
-    go (inl lt) = same_below _ x _ (get_or-replicate n k x (pos 0) lt) h
-    go (inr le) = same_below _ (pos 0) _ (beyond (replicate n x) k (omega (arith, long, le))) zero_most
-
-pub under_greatest : (n : ℕ) (h : Hull) → 6 ≤ n → IsPackable n h → IsUnder (lanes_of n h) (greatest_lanes n)
-under_greatest n h big p = go (some_hull h) refl
-  where
-    go : (b : Bool) → some_hull h ≡ b → IsUnder (lanes_of n h) (greatest_lanes n)
-    go true e =
-        subst (λ xs. IsUnder xs (greatest_lanes n)) (sym (lanes_some n h e))
-        (below_greatest n (some_of n h) (some_packed n h big p e).len (all_below n (replicate n (pos 0)) h p.small (same_lanes n (pos 0) zero_most)))
-    go false e =
-        subst (λ xs. IsUnder xs (greatest_lanes n)) (sym (lanes_none n h e))
-        (below_greatest n (no_lanes n) (length-replicate n least) (same_lanes n least least_below))

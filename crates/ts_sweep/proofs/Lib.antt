@@ -4,8 +4,12 @@ pub mod RunSteps
 pub mod Merges
 pub mod Greater
 pub mod EqualSteps
+pub mod Fits
+pub mod SeenLaws
+pub mod SeenMoves
 pub mod Entries
 pub mod CoverSteps
+pub mod CoverLaws
 pub mod Closable
 pub mod Taken
 pub mod Replaced

@@ -20,13 +20,17 @@ use Rattle.ts_sweep.specs.Lanes.{no_lanes, some_lanes, greater_of}
 use Rattle.ts_sweep.specs.declared.packed.Name.{Name}
 use Rattle.ts_sweep.specs.declared.packed.Name.TheVariants.{C, E, D, F, R}
 use Rattle.ts_sweep.specs.Moves.{of_name, with_all, beside}
-use Rattle.ts_sweep.specs.MoveLaws.{IsPackAt, by_names, all_packed, all_unpacked, first_is, some_unpacked, not_nothing}
+use Rattle.ts_sweep.specs.Fronts.{IsFor, IsMoveFor}
+use Rattle.ts_sweep.specs.MoveLaws.{IsPackAt, all_kept, all_packed, all_unpacked, both_for, by_names, first_is, not_nothing, read_are, seen_at, some_unpacked}
+use Rattle.ts_sweep.specs.Sides.{Sides, BothEnds, IsEndsOf, as_read, kept_ends, seen_hull}
+use Rattle.ts_sweep.specs.SidesLaws.{both_kept, kept_packs, narrow_or_both}
 use Rattle.ts_sweep.specs.Packed.{is_wide, place, unpacked, IsPacked, IsPackOf, ArePacked}
 use Rattle.ts_sweep.specs.PackedLaws.{joined_packed, joined_is, none_unpacked}
 use Rattle.ts_sweep.specs.Small.{IsSmall}
 use Rattle.ts_sweep.specs.Trees.{tree_value}
 use Rattle.ts_sweep.specs.TreeLaws.{tree_packs}
 use Rattle.ts_sweep.proofs.RunSteps.{as_passed}
+use Rattle.ts_sweep.proofs.SeenLaws.{none_seen, seen_both}
 use Rattle.ts_sweep.proofs.Widths.{both_zero, zero_only}
 use mir.Syntax.{w64}
 use mir.Val.{of_z, to_z}
@@ -40,38 +44,48 @@ nothing_lanes n xs big (inl e) f = e
 nothing_lanes n xs big (inr s) f = never_added (sym (first_is n xs big s) ∙ f)
 
 -- a move makes nothing of nothing
-pub moved_nothing : (m : Move) (n : ℕ) (xs : List ℤ) (x y : ℤ) → 6 ≤ n → IsPacked n xs → some_lanes xs ≡ false →
-    unpacked xs ≡ after_move m (unpacked xs) x y
-moved_nothing m n xs x y big p f =
+pub moved_nothing : (s : Sides) (m : Move) (n : ℕ) (xs : List ℤ) (x y : ℤ) → 6 ≤ n → IsPacked n xs → some_lanes xs ≡ false →
+    unpacked xs ≡ seen_hull s (after_move m (unpacked xs) x y)
+moved_nothing s m n xs x y big p f =
     let e : unpacked xs ≡ none = ap unpacked (nothing_lanes n xs big p f) ∙ none_unpacked n big in
-    e ∙ sym (after_is m (unpacked xs) x y false (ap some_hull e ∙ none_registers))
+    e ∙ sym (none_seen s) ∙ ap (seen_hull s) (sym (after_is m (unpacked xs) x y false (ap some_hull e ∙ none_registers)))
 
 -- E and F of a narrow move are 0
-beside_packs : (wide : Bool) (p : ℕ) (f : Formula) (e : Ends) (h : Hull) (x y : ℤ) → IsPackOf e (span_in f h x y) → (wide ≡ false → is_zero f ≡ true) →
-    IsPackAt (cond wide (Some p) None) (beside wide e) (span_in f h x y)
-beside_packs true p f e h x y pack zero = pack
-beside_packs false p f e h x y pack zero = sym (ap (λ g. span_in g h x y) (zero_only f (zero refl)))
+beside_packs : (s : Sides) (wide : Bool) (p : ℕ) (f : Formula) (e : Ends) (h : Hull) (x y : ℤ) → (s ≡ BothEnds) ⊎ (wide ≡ false) →
+    (IsFor s f → IsEndsOf s e (span_in f h x y)) → (wide ≡ false → is_zero f ≡ true) →
+    IsPackAt (cond wide (Some p) None) (kept_ends s (beside wide e)) (span_in f h x y)
+beside_packs s true p f e h x y alone pack zero =
+    let both = narrow_or_both s true alone refl in both_kept s e (span_in f h x y) both (pack (both_for s f both))
+beside_packs s false p f e h x y alone pack zero = sym (ap (λ g. span_in g h x y) (zero_only f (zero refl)))
 
--- and of a hull in lanes what its expressions make of it
-pub moved_some : (m : Move) (n : ℕ) (xs zs : List ℤ) (x y : ℤ) (c e d f r : Ends) → 6 ≤ n → rests is_zero (is_wide n) m.to ≡ true → IsPacked n xs →
-    some_lanes xs ≡ true → IsSmall x → IsSmall y → c ≡ tree_value m.to.c xs x y → e ≡ beside (is_wide n) (tree_value m.to.e xs x y) →
-    d ≡ tree_value m.to.d xs x y → f ≡ beside (is_wide n) (tree_value m.to.f xs x y) → r ≡ tree_value m.to.r xs x y →
-    zs ≡ with_all n xs (of_name (each c e d f r)) → IsPacked n zs × (unpacked zs ≡ after_move m (unpacked xs) x y)
-moved_some m n xs zs x y c e d f r big width p some this next ec ee ed ef er is =
-    let s = not_nothing n xs some p in
+-- and of a hull in lanes what is seen of what its expressions make of it
+pub moved_some : (s : Sides) (m : Move) (n : ℕ) (xs zs : List ℤ) (x y : ℤ) (c e d f r : Ends) → (s ≡ BothEnds) ⊎ (is_wide n ≡ false) →
+    6 ≤ n → rests is_zero (is_wide n) m.to ≡ true → IsMoveFor s m → IsPacked n xs →
+    some_lanes xs ≡ true → IsSmall x → IsSmall y → c ≡ tree_value m.to.c (as_read s xs) x y →
+    e ≡ beside (is_wide n) (tree_value m.to.e (as_read s xs) x y) →
+    d ≡ tree_value m.to.d (as_read s xs) x y → f ≡ beside (is_wide n) (tree_value m.to.f (as_read s xs) x y) →
+    r ≡ tree_value m.to.r (as_read s xs) x y → zs ≡ with_all n xs (all_kept s (of_name (each c e d f r))) →
+    IsPacked n zs × (unpacked zs ≡ seen_hull s (after_move m (unpacked xs) x y))
+moved_some s m n xs zs x y c e d f r alone big width suits p some this next ec ee ed ef er is =
+    let is_some = not_nothing n xs some p in
     let h = unpacked xs in
-    let value : Name → Span = λ k. span_in (of_name m.to k) h x y in
-    let tree : (g : Formula) → IsPackOf (tree_value g xs x y) (span_in g h x y) = λ g. tree_packs g n xs x y big s this next in
+    let value : Name → Span = λ k. seen_at s k (span_in (of_name m.to k) h x y) in
+    let kept : Name → Ends = all_kept s (of_name (each c e d f r)) in
+    let tree : (g : Formula) → IsFor s g → IsEndsOf s (tree_value g (as_read s xs) x y) (span_in g h x y) =
+    λ g is_for. tree_packs g s (as_read s xs) h x y (read_are s n xs big is_some) is_for this next in
     let zero : is_wide n ≡ false → (is_zero m.to.e ≡ true) × (is_zero m.to.f ≡ true) = both_zero (is_wide n) (is_zero m.to.e) (is_zero m.to.f) width in
-    let packs : (k : Name) → IsPackAt (place n k) (of_name (each c e d f r) k) (value k) =
-    by_names (λ k. IsPackAt (place n k) (of_name (each c e d f r) k) (value k))
-    (subst (λ z. IsPackOf z (value C)) (sym ec) (tree m.to.c))
-    (subst (λ z. IsPackAt (place n E) z (value E)) (sym ee) (beside_packs (is_wide n) 1 m.to.e _ h x y (tree m.to.e) (λ w. (zero w).0)))
-    (subst (λ z. IsPackOf z (value D)) (sym ed) (tree m.to.d))
-    (subst (λ z. IsPackAt (place n F) z (value F)) (sym ef) (beside_packs (is_wide n) 3 m.to.f _ h x y (tree m.to.f) (λ w. (zero w).1)))
-    (subst (λ z. IsPackOf z (value R)) (sym er) (tree m.to.r)) in (
-      subst (IsPacked n) (sym is) (inr (all_packed n xs (of_name (each c e d f r)) value big s packs)),
-      ap unpacked is ∙ all_unpacked n xs (of_name (each c e d f r)) value big s packs ∙ sym (after_is m h x y true (some_unpacked n xs big s)),
+    let packs : (k : Name) → IsPackAt (place n k) (kept k) (value k) =
+    by_names (λ k. IsPackAt (place n k) (kept k) (value k))
+    (subst (λ z. IsPackOf (kept_ends s z) (value C)) (sym ec) (kept_packs s _ _ (tree m.to.c suits.0)))
+    (subst (λ z. IsPackAt (place n E) (kept_ends s z) (value E)) (sym ee)
+    (beside_packs s (is_wide n) 1 m.to.e _ h x y alone (tree m.to.e) (λ w. (zero w).0)))
+    (subst (λ z. IsPackOf (kept_ends s z) (value D)) (sym ed) (kept_packs s _ _ (tree m.to.d suits.1)))
+    (subst (λ z. IsPackAt (place n F) (kept_ends s z) (value F)) (sym ef)
+    (beside_packs s (is_wide n) 3 m.to.f _ h x y alone (tree m.to.f) (λ w. (zero w).1)))
+    (subst (λ z. IsPackOf (kept_ends s z) (value R)) (sym er) (kept_packs s _ _ (tree m.to.r suits.2))) in (
+      subst (IsPacked n) (sym is) (inr (all_packed n xs kept value big is_some packs)),
+      ap unpacked is ∙ all_unpacked n xs kept value big is_some packs
+          ∙ ap (seen_hull s) (sym (after_is m h x y true (some_unpacked n xs big is_some))),
     )
 
 module _ {X : Type 0} (both : X → X → X) (nothing : X) (lanes : X → List ℤ) (n : ℕ) (both_lanes : (a b : X) → lanes (both a b) ≡ greater_of (lanes a) (lanes b)) (none_lanes : lanes nothing ≡ no_lanes n) (big : 6 ≤ n) where
@@ -84,10 +98,11 @@ module _ {X : Type 0} (both : X → X → X) (nothing : X) (lanes : X → List �
   )
 
 -- what is given so far, by the first i of the values
-pub record IsGiven {X : Type 0} (lanes : X → List ℤ) (nothing : X) (n : ℕ) (m : Move) (l : Letter) (twin : Bool) (i : ℕ) (v : ℕ → ℤ) (before : List X) (w : ℤ)
+pub record IsGiven {X : Type 0} (s : Sides) (lanes : X → List ℤ) (nothing : X) (n : ℕ) (m : Move) (l : Letter) (twin : Bool) (i : ℕ) (v : ℕ → ℤ)
+    (before : List X) (w : ℤ)
     (all : X) : Type 0 where
   pub packed : IsPacked n (lanes all)
-  pub value : unpacked (lanes all) ≡ gives m l twin i v (hull_at lanes nothing before) w
+  pub value : unpacked (lanes all) ≡ seen_hull s (gives m l twin i v (hull_at lanes nothing before) w)
 
 gives_none : (m : Move) (l : Letter) (twin : Bool) (v : ℕ → ℤ) (h : ℕ → Hull) (w : ℤ) → none ≡ gives m l twin 0 v h w
 unfolding gives total
@@ -99,11 +114,12 @@ unfolding gives total
 gives_more m l twin i v h w = refl
 
 -- the first j next hulls have taken in what is given to them
-pub record ArePaired {X : Type 0} (lanes : X → List ℤ) (nothing : X) (n : ℕ) (m : Move) (l : Letter) (twin : Bool) (count : ℕ) (v : ℕ → ℤ) (before : List X)
+pub record ArePaired {X : Type 0} (s : Sides) (lanes : X → List ℤ) (nothing : X) (n : ℕ) (m : Move) (l : Letter) (twin : Bool) (count : ℕ) (v : ℕ → ℤ)
+    (before : List X)
     (k : ℕ) (w : ℕ → ℤ) (j : ℕ) (old new : List X) : Type 0 where
   pub packed : ArePacked lanes nothing n k new
   pub done : (i : ℕ) → i < j → hull_at lanes nothing new i ≡ hull_of_both (hull_at lanes nothing old i)
-      (gives m l twin count v (hull_at lanes nothing before) (w i))
+      (seen_hull s (gives m l twin count v (hull_at lanes nothing before) (w i)))
   pub rest : (i : ℕ) → j ≤ i → get_or new i nothing ≡ get_or old i nothing
 
 before_or : (i j : ℕ) → i < suc j → (i < j) ⊎ (i ≡ j)
@@ -116,30 +132,34 @@ same_or i j = go (nat_eq i j) refl
     go true e = inl (eqb-true i j e)
     go false e = inr (eqb-false i j e)
 
-module _ {X : Type 0} (both : X → X → X) (nothing : X) (lanes : X → List ℤ) (n : ℕ) (both_lanes : (a b : X) → lanes (both a b) ≡ greater_of (lanes a) (lanes b)) (none_lanes : lanes nothing ≡ no_lanes n) (big : 6 ≤ n) (m : Move) (l : Letter) (twin : Bool) (v : ℕ → ℤ) (before : List X) where
-  pub given_begun : (w : ℤ) (all : X) → all ≡ nothing → IsGiven lanes nothing n m l twin 0 v before w all
+module _ {X : Type 0} (both : X → X → X) (nothing : X) (lanes : X → List ℤ) (n : ℕ) (both_lanes : (a b : X) → lanes (both a b) ≡ greater_of (lanes a) (lanes b)) (none_lanes : lanes nothing ≡ no_lanes n) (big : 6 ≤ n) (s : Sides) (m : Move) (l : Letter) (twin : Bool) (v : ℕ → ℤ) (before : List X) where
+  pub given_begun : (w : ℤ) (all : X) → all ≡ nothing → IsGiven s lanes nothing n m l twin 0 v before w all
   given_begun w all e = record {
     packed = inl (ap lanes e ∙ none_lanes);
-    value = ap (λ z. unpacked (lanes z)) e ∙ ap unpacked none_lanes ∙ none_unpacked n big ∙ gives_none m l twin v (hull_at lanes nothing before) w;
+    value = ap (λ z. unpacked (lanes z)) e ∙ ap unpacked none_lanes ∙ none_unpacked n big ∙ sym (none_seen s)
+        ∙ ap (seen_hull s) (gives_none m l twin v (hull_at lanes nothing before) w);
   }
 
-  pub given_more : (i : ℕ) (w : ℤ) (all more : X) → IsGiven lanes nothing n m l twin i v before w all → IsPacked n (lanes more) →
+  pub given_more : (i : ℕ) (w : ℤ) (all more : X) → IsGiven s lanes nothing n m l twin i v before w all → IsPacked n (lanes more) →
       unpacked (lanes more) ≡ hull_of_both (unpacked (lanes all))
-      (cond (compares l twin (v i) w) (after_move m (hull_at lanes nothing before i) (v i) w) none) →
-      IsGiven lanes nothing n m l twin (i + 1) v before w more
+      (seen_hull s (cond (compares l twin (v i) w) (after_move m (hull_at lanes nothing before i) (v i) w) none)) →
+      IsGiven s lanes nothing n m l twin (i + 1) v before w more
   given_more i w all more given packed is =
       let next : suc i ≡ i + 1 = omega arith in
       record {
         packed = packed;
         value = is
-            ∙ ap (λ z. hull_of_both z (cond (compares l twin (v i) w) (after_move m (hull_at lanes nothing before i) (v i) w) none)) given.value
-            ∙ gives_more m l twin i v (hull_at lanes nothing before) w
-            ∙ ap (λ z. gives m l twin z v (hull_at lanes nothing before) w) next;
+            ∙ ap (λ z. hull_of_both z (seen_hull s (cond (compares l twin (v i) w) (after_move m (hull_at lanes nothing before i) (v i) w) none)))
+            given.value
+            ∙ sym (seen_both s (gives m l twin i v (hull_at lanes nothing before) w)
+            (cond (compares l twin (v i) w) (after_move m (hull_at lanes nothing before i) (v i) w) none))
+            ∙ ap (seen_hull s) (gives_more m l twin i v (hull_at lanes nothing before) w
+            ∙ ap (λ z. gives m l twin z v (hull_at lanes nothing before) w) next);
       }
 
-  pub paired_more : (count k : ℕ) (w : ℕ → ℤ) (j : ℕ) (old new new' : List X) → ArePaired lanes nothing n m l twin count v before k w j old new →
-      j < k → IsGift both lanes nothing n (gives m l twin count v (hull_at lanes nothing before) (w j)) j new new' →
-      ArePaired lanes nothing n m l twin count v before k w (j + 1) old new'
+  pub paired_more : (count k : ℕ) (w : ℕ → ℤ) (j : ℕ) (old new new' : List X) → ArePaired s lanes nothing n m l twin count v before k w j old new →
+      j < k → IsGift both lanes nothing n (seen_hull s (gives m l twin count v (hull_at lanes nothing before) (w j))) j new new' →
+      ArePaired s lanes nothing n m l twin count v before k w (j + 1) old new'
   paired_more count k w j old new new' so_far inside given =
       let gift = given.gift in
       let here = both (get_or new j nothing) gift in
@@ -161,13 +181,14 @@ module _ {X : Type 0} (both : X → X → X) (nothing : X) (lanes : X → List �
         done = λ i lt. elim (before_or i j (omega (arith, lt))) [
           | inl less ↦ ap (λ z. unpacked (lanes z)) (other i (λ e. omega (arith, e, less))) ∙ so_far.done i less
           | inr same ↦ subst (λ z. hull_at lanes nothing new' z ≡ hull_of_both (hull_at lanes nothing old z)
-              (gives m l twin count v (hull_at lanes nothing before) (w z)))
+              (seen_hull s (gives m l twin count v (hull_at lanes nothing before) (w z))))
               (sym same) (ap (λ z. unpacked (lanes z)) here_is ∙ joined.1
-              ∙ ap (λ z. hull_of_both (unpacked (lanes z)) (gives m l twin count v (hull_at lanes nothing before) (w j))) (so_far.rest j (omega arith)))
+              ∙ ap (λ z. hull_of_both (unpacked (lanes z)) (seen_hull s (gives m l twin count v (hull_at lanes nothing before) (w j))))
+              (so_far.rest j (omega arith)))
         ];
         rest = λ i less. other i (λ e. omega (arith, e, less)) ∙ so_far.rest i (omega (arith, less));
       }
 
   pub paired_begun : (count k : ℕ) (w : ℕ → ℤ) (old : List X) → ArePacked lanes nothing n k old →
-      ArePaired lanes nothing n m l twin count v before k w 0 old old
+      ArePaired s lanes nothing n m l twin count v before k w 0 old old
   paired_begun count k w old packed = record { packed = packed; done = λ i lt. absurd (omega (arith, lt)); rest = λ i less. refl }

@@ -11,17 +11,18 @@ use Rattle.ts_hull.specs.Sealed.{after_move}
 use Rattle.ts_hull.specs.Cuts.{Cut, cut_of, all_swept}
 use Rattle.ts_hull.specs.Sweeps.{AllTakeNone, hull_in, step_place, puts, compares, total as hull_total}
 use Rattle.ts_hull.proofs.Puts.{puts_at}
+use Rattle.ts_sweep.specs.declared.cover.Cover.{Cover}
 use Rattle.ts_sweep.specs.declared.packed.PackedHull.{PackedHull}
+use Rattle.ts_sweep.specs.Covers.{IsBounded, IsCoverOf, IsHullBounded}
 use Rattle.ts_sweep.specs.Lanes.{no_lanes, greater_of}
-use Rattle.ts_sweep.specs.LaneLaws.{lanes_associative, lanes_commutative, lanes_idempotent}
 use Rattle.ts_sweep.specs.Moves.{IsFrontOf, IsClosingOf}
-use Rattle.ts_sweep.specs.Packed.{unpacked, IsPacked, IsUnder}
+use Rattle.ts_sweep.specs.Packed.{unpacked, IsPacked}
 use Rattle.ts_sweep.specs.PackedLaws.{none_unpacked}
+use Rattle.ts_sweep.specs.Sides.{BothEnds}
 use Rattle.ts_sweep.specs.Small.{IsSmall}
-use Rattle.ts_sweep.specs.Strided.{AreBeside, IsPackable, greatest_lanes, lanes_of, packed_at}
-use Rattle.ts_sweep.specs.Sweeps.{IsTakenIn, met_hull, total}
-use Rattle.ts_sweep.proofs.HullLanes.{hull_packed, under_greatest}
-use Rattle.ts_sweep.proofs.Kept.{under_cover}
+use Rattle.ts_sweep.specs.Strided.{AreBeside, IsPackable, packed_at}
+use Rattle.ts_sweep.specs.Sweeps.{IsTakenIn, met_hull}
+use Rattle.ts_sweep.proofs.HullLanes.{hull_packed}
 use Rattle.ts_sweep.proofs.Seam.{row_taken, gives_entry}
 
 module _ (n : ℕ) (big : 6 ≤ n) where
@@ -38,7 +39,7 @@ module _ (n : ℕ) (big : 6 ≤ n) where
   nothing = of_lanes (no_lanes n)
 
   -- the hulls of the state q of s at so many values
-  abbrev column : ℕ → ℕ → ℕ → List Hull → List (PackedHull n)
+  abbrev pub column : ℕ → ℕ → ℕ → List Hull → List (PackedHull n)
   column s q count row = map (packed_at n s q row) (range_with_len 0 count)
 
   column_is : (s q count : ℕ) (row : List Hull) (i : ℕ) → i < count → get_or (column s q count row) i nothing ≡ packed_at n s q row i
@@ -47,33 +48,30 @@ module _ (n : ℕ) (big : 6 ≤ n) where
   pub column_long : (s q count : ℕ) (row : List Hull) → length (column s q count row) ≡ count
   column_long s q count row = length-map-range_with_len (packed_at n s q row) 0 count
 
-  -- all hulls under a cover that can be taken can
-  pub all_fit : (fit : PackedHull n → Type 0) (s q count : ℕ) (row : List Hull) (cover : PackedHull n) → ((p : ℕ) → IsPackable n (get_or row p none_hull)) →
-      cover ≡ total both nothing (λ i. true) (λ i. get_or (column s q count row) i nothing) count →
-      ((h : PackedHull n) → IsPacked n h.at → IsUnder h.at cover.at → fit h) → (i : ℕ) → i < count → fit (packed_at n s q row i)
-  all_fit fit s q count row cover packable is fits i lt =
+  -- all hulls that a cover bounds can be taken
+  pub all_fit : (fit : PackedHull n → Type 0) (s q count : ℕ) (row : List Hull) (cover : Cover) → ((p : ℕ) → IsPackable n (get_or row p none_hull)) →
+      (((i : ℕ) → i < count → IsPacked n (lanes (get_or (column s q count row) i nothing))) →
+      IsCoverOf BothEnds lanes nothing cover count (column s q count row)) →
+      ((h : PackedHull n) → IsPacked n h.at → IsHullBounded BothEnds cover h.at → fit h) → (i : ℕ) → i < count → fit (packed_at n s q row i)
+  all_fit fit s q count row cover packable bounds fits i lt =
       let packs : (k : ℕ) → k < count → IsPacked n (lanes (get_or (column s q count row) k nothing)) =
       (λ k less. subst (λ z. IsPacked n (lanes z)) (sym (column_is s q count row k less)) (hull_packed n (hull_in s q row k) big (packable (k * s + q)))) in
-      let under = under_cover both nothing lanes n (λ a b. refl) refl big (λ a b c. ap of_lanes (lanes_associative a.at b.at c.at))
-      (λ a b. ap of_lanes (lanes_commutative a.at b.at)) (λ a. ap of_lanes (lanes_idempotent a.at)) (λ k. get_or (column s q count row) k nothing) count i cover
-      is packs lt in
       fits (packed_at n s q row i) (hull_packed n (hull_in s q row i) big (packable (i * s + q)))
-      (subst (λ z. IsUnder (lanes z) cover.at) (column_is s q count row i lt) under)
+      (subst (λ z. IsHullBounded BothEnds cover (lanes z)) (column_is s q count row i lt) (bounds packs i lt))
 
-  -- all hulls can be taken if those under the greatest one can
-  pub any_fit : (fit : PackedHull n → Type 0) (s q count : ℕ) (row : List Hull) (top : PackedHull n) → ((p : ℕ) → IsPackable n (get_or row p none_hull)) →
-      top.at ≡ greatest_lanes n → ((h : PackedHull n) → IsPacked n h.at → IsUnder h.at top.at → fit h) → (i : ℕ) → i < count → fit (packed_at n s q row i)
-  any_fit fit s q count row top packable is fits i lt =
-      let here = packable (i * s + q) in
-      fits (packed_at n s q row i) (hull_packed n (hull_in s q row i) big here)
-      (subst (IsUnder (lanes_of n (hull_in s q row i))) (sym is) (under_greatest n (hull_in s q row i) big here))
+  -- all hulls can be taken if any can
+  pub any_fit : (fit : PackedHull n → Type 0) (s q count : ℕ) (row : List Hull) (cover : Cover) → ((p : ℕ) → IsPackable n (get_or row p none_hull)) →
+      ((xs : List ℤ) → IsBounded cover xs) → ((h : PackedHull n) → IsPacked n h.at → IsHullBounded BothEnds cover h.at → fit h) →
+      (i : ℕ) → i < count → fit (packed_at n s q row i)
+  any_fit fit s q count row cover packable bounds fits i lt =
+      fits (packed_at n s q row i) (hull_packed n (hull_in s q row i) big (packable (i * s + q))) (λ some. bounds (packed_at n s q row i).at)
 
   -- a hull that is read from the column can be taken
   pub column_fit : (fit : PackedHull n → Type 0) (s q count : ℕ) (row : List Hull) → ((i : ℕ) → i < count → fit (packed_at n s q row i)) → (i : ℕ) → i < count →
       fit (get_or (column s q count row) i nothing)
   column_fit fit s q count row fits i lt = subst fit (sym (column_is s q count row i lt)) (fits i lt)
 
-  module _ (fit closable : PackedHull n → Type 0) (front closing : PackedHull n → ℤ → PackedHull n) (cut : Cut) (closable_none : closable nothing) (closable_both : (a b : PackedHull n) → closable a → closable b → closable (both a b)) (closable_front : (h : PackedHull n) (v : ℤ) → fit h → IsSmall v → closable (front h v)) (front_is : (h : PackedHull n) (v : ℤ) → fit h → IsSmall v → IsFrontOf cut n h.at v (lanes (front h v))) (closing_is : (h : PackedHull n) (w : ℤ) → closable h → IsSmall w → IsClosingOf cut n h.at w (lanes (closing h w))) where
+  module _ (fit closable : PackedHull n → Type 0) (front closing : PackedHull n → ℤ → PackedHull n) (cut : Cut) (closable_none : closable nothing) (closable_both : (a b : PackedHull n) → closable a → closable b → closable (both a b)) (closable_front : (h : PackedHull n) (v : ℤ) → fit h → IsSmall v → closable (front h v)) (front_is : (h : PackedHull n) (v : ℤ) → fit h → IsSmall v → IsFrontOf BothEnds cut n h.at v (lanes (front h v))) (closing_is : (h : PackedHull n) (w : ℤ) → closable h → IsSmall w → IsClosingOf BothEnds cut n h.at w (lanes (closing h w))) where
     pub row_is : (m : Move) (l : Letter) (twin : Bool) (s q count r t k : ℕ) (before old new : List Hull) (value next : ℕ → ℤ) (g : ℕ → Hull) →
         cut_of m ≡ cut → all_swept (cut_of m) ≡ true → m.next ≡ r → r < t → length old ≡ k * t → AllTakeNone old →
         ((p : ℕ) → IsPackable n (get_or before p none_hull)) → ((i : ℕ) → i < count → fit (packed_at n s q before i)) →
@@ -97,8 +95,8 @@ module _ (n : ℕ) (big : 6 ≤ n) where
         (map (hull_in t z old) (range_with_len 0 k)) (map (hull_in t z new) (range_with_len 0 k))) (sym to) taken)
         (subst (λ z. AreBeside z t k old new) (sym to) beside)
         (λ j lt. gives_entry both nothing lanes n big (λ a b. refl) refl fit closable front closing m closable_none closable_both closable_front
-        (λ h v f s. subst (λ z. IsFrontOf z n h.at v (lanes (front h v))) (sym cut_is) (front_is h v f s))
-        (λ h w c s. subst (λ z. IsClosingOf z n h.at w (lanes (closing h w))) (sym cut_is) (closing_is h w c s))
+        (λ h v f s. subst (λ z. IsFrontOf BothEnds z n h.at v (lanes (front h v))) (sym cut_is) (front_is h v f s))
+        (λ h w c s. subst (λ z. IsClosingOf BothEnds z n h.at w (lanes (closing h w))) (sym cut_is) (closing_is h w c s))
         l twin count (column s q count before) (hull_in s q before) value (next j) (column_long s q count before)
         (λ i less. ap lanes (column_is s q count before i less)) swept (λ i less. packable (i * s + q)) (column_fit fit s q count before fits) small_values
         (small_next j lt) ∙ sym (g_is j lt))

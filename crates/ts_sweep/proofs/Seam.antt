@@ -15,6 +15,7 @@ use Rattle.ts_hull.proofs.Puts.{length-puts}
 use Rattle.ts_sweep.specs.Lanes.{no_lanes, greater_of}
 use Rattle.ts_sweep.specs.Moves.{IsFrontOf, IsClosingOf}
 use Rattle.ts_sweep.specs.Packed.{unpacked}
+use Rattle.ts_sweep.specs.Sides.{BothEnds}
 use Rattle.ts_sweep.specs.Small.{IsSmall}
 use Rattle.ts_sweep.specs.Strided.{AreBeside, IsPackable, lanes_of}
 use Rattle.ts_sweep.specs.Sweeps.{IsTakenIn, met_hull}
@@ -53,7 +54,7 @@ row_taken unpack nothing h m l s n g old new leads long canonical empty taken be
         ∙ sym (canonical (j * s + t)) ∙ sym (ap (λ e. hull_of_both (get_or old (j * s + t) none) (cond e (g j) none)) is)
 
 -- what a sweep gives to a next value is what the move gives to it from all values that compare with it as the letter says
-module _ {X : Type 0} (both : X → X → X) (nothing : X) (lanes : X → List ℤ) (n : ℕ) (big : 6 ≤ n) (both_lanes : (a b : X) → lanes (both a b) ≡ greater_of (lanes a) (lanes b)) (none_lanes : lanes nothing ≡ no_lanes n) (fit closable : X → Type 0) (front closing : X → ℤ → X) (m : Move) (closable_none : closable nothing) (closable_both : (a b : X) → closable a → closable b → closable (both a b)) (closable_front : (h : X) (v : ℤ) → fit h → IsSmall v → closable (front h v)) (front_is : (h : X) (v : ℤ) → fit h → IsSmall v → IsFrontOf (cut_of m) n (lanes h) v (lanes (front h v))) (closing_is : (h : X) (w : ℤ) → closable h → IsSmall w → IsClosingOf (cut_of m) n (lanes h) w (lanes (closing h w))) where
+module _ {X : Type 0} (both : X → X → X) (nothing : X) (lanes : X → List ℤ) (n : ℕ) (big : 6 ≤ n) (both_lanes : (a b : X) → lanes (both a b) ≡ greater_of (lanes a) (lanes b)) (none_lanes : lanes nothing ≡ no_lanes n) (fit closable : X → Type 0) (front closing : X → ℤ → X) (m : Move) (closable_none : closable nothing) (closable_both : (a b : X) → closable a → closable b → closable (both a b)) (closable_front : (h : X) (v : ℤ) → fit h → IsSmall v → closable (front h v)) (front_is : (h : X) (v : ℤ) → fit h → IsSmall v → IsFrontOf BothEnds (cut_of m) n (lanes h) v (lanes (front h v))) (closing_is : (h : X) (w : ℤ) → closable h → IsSmall w → IsClosingOf BothEnds (cut_of m) n (lanes h) w (lanes (closing h w))) where
   pub gives_entry : (l : Letter) (twin : Bool) (count : ℕ) (hulls : List X) (h : ℕ → Hull) (value : ℕ → ℤ) (w : ℤ) → length hulls ≡ count →
       ((i : ℕ) → i < count → lanes (get_or hulls i nothing) ≡ lanes_of n (h i)) → all_swept (cut_of m) ≡ true →
       ((i : ℕ) → i < count → IsPackable n (h i)) → ((i : ℕ) → i < count → fit (get_or hulls i nothing)) →
@@ -63,7 +64,7 @@ module _ {X : Type 0} (both : X → X → X) (nothing : X) (lanes : X → List �
   gives_entry l twin count hulls h value w long lanes_are swept packs fits small_values small_next =
       let test : ℕ → Bool = λ i. compares l twin (value i) w in
       let fronts : (i : ℕ) → Hull = λ i. cond (test i) (front_hull (cut_of m) (unpacked (lanes (get_or hulls i nothing))) (value i)) none in
-      (given_is both nothing lanes n both_lanes none_lanes big fit closable front closing (cut_of m) closable_none closable_both closable_front
+      (given_is both nothing lanes n both_lanes none_lanes big BothEnds fit closable front closing (cut_of m) closable_none closable_both closable_front
       front_is closing_is test hulls value w (λ i lt. fits i (omega (arith, lt, long))) (λ i lt. small_values i (omega (arith, lt, long))) small_next).1
       ∙ ap (λ k. closed_hull (cut_of m) (hull_total k fronts) w) long
       ∙ ap (λ z. closed_hull (cut_of m) z w)

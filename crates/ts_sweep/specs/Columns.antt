@@ -7,6 +7,7 @@ use Rattle.ts_hull.specs.Hulls.{none, hull_of_both}
 use Rattle.ts_hull.specs.Sealed.{after_move}
 use Rattle.ts_hull.specs.Sweeps.{compares, total}
 use Rattle.ts_sweep.specs.Packed.{unpacked, IsPacked}
+use Rattle.ts_sweep.specs.Sides.{Sides, seen_hull}
 
 -- what a move gives to a next value w from n values v with hulls h: the hull of what it makes of those whose value
 -- compares with w as the letter says, or is equal to it where there is a twin
@@ -17,12 +18,14 @@ gives m l twin n v h w = total n (λ i. cond (compares l twin (v i) w) (after_mo
 abbrev pub hull_at : {X : Type 0} → (X → List ℤ) → X → List X → ℕ → Hull
 hull_at lanes nothing hulls i = unpacked (lanes (get_or hulls i nothing))
 
--- each of the k hulls of the next column has taken in what the move gives to its value w j from the n hulls before
-abbrev pub IsMoved : {X : Type 0} → (X → List ℤ) → X → Move → Letter → Bool → ℕ → (ℕ → ℤ) → List X → ℕ → (ℕ → ℤ) →
-    List X → List X → Type 0
-IsMoved lanes nothing m l twin n v before k w old new =
+-- each of the k hulls of the next column has taken in what is seen of what the move gives to its value w j from the n
+-- hulls before
+abbrev pub IsMoved : {X : Type 0} → Sides → (X → List ℤ) → X → Move → Letter → Bool → ℕ → (ℕ → ℤ) → List X → ℕ →
+    (ℕ → ℤ) → List X → List X → Type 0
+IsMoved s lanes nothing m l twin n v before k w old new =
     (j : ℕ) → j < k → hull_at lanes nothing new j
-    ≡ hull_of_both (hull_at lanes nothing old j) (gives m l twin n v (hull_at lanes nothing before) (w j))
+    ≡ hull_of_both (hull_at lanes nothing old j)
+    (seen_hull s (gives m l twin n v (hull_at lanes nothing before) (w j)))
 
 -- the hull at a place of a column is joined with one that stands for h
 pub record IsGift {X : Type 0} (both : X → X → X) (lanes : X → List ℤ) (nothing : X) (n : ℕ) (h : Hull) (j : ℕ)

@@ -1,6 +1,7 @@
 -- The laws of fronts.
 -- Lemmas, no definitions: they are here since ghost members of impls cite them.
-use Rattle.std.proofs.Common.{◌≡◌, ℕ, ◌+◌, ◌*◌, ◌<◌, ◌≤◌, ◌≤ℤ◌, ◌<ℤ◌, ℤ, pos, negsuc, neg_ℤ, Bool, true, false, ◌||◌, min, Option, None, Some, List, length, int_le, inl, inr, refl, sym, ap, subst, ◌∙◌, arith}
+use Rattle.std.proofs.Common.{◌≡◌, ◌⊎◌, ℕ, ◌+◌, ◌*◌, ◌<◌, ◌≤◌, ◌≤ℤ◌, ◌<ℤ◌, ℤ, pos, negsuc, neg_ℤ, Bool, true, false, ◌||◌, min, Option, None, Some, List, length, int_le, inl, inr, refl, sym, ap, subst, ◌∙◌, arith}
+use Rattle.std.proofs.lemmas.Bool.{and_parts}
 use Rattle.std.proofs.lemmas.Int.{ints}
 use Rattle.ts_base.specs.declared.ext.Ext.{Ext}
 use Rattle.ts_base.specs.declared.ext.Ext.TheVariants.{NegInf, Int, PosInf}
@@ -9,7 +10,11 @@ use Rattle.ts_base.specs.Numbers.{ext_le}
 use Rattle.ts_base.specs.Spans.{has_some, one_span}
 use Rattle.ts_base.proofs.SpanLaws.{one_some}
 use Rattle.ts_automaton.specs.declared.expr.Operator.{Operator}
-use Rattle.ts_automaton.specs.Formula.{Leaf}
+use Rattle.ts_automaton.specs.declared.expr.Operator.TheVariants.{Fold, Sub}
+use Rattle.ts_automaton.specs.declared.regs.Hull.{Hull}
+use Rattle.ts_automaton.specs.Body.{Move}
+use Rattle.ts_automaton.specs.Formula.{Formula, Leaf, Join, is_narrow}
+use Rattle.ts_base.specs.declared.op.Op.{Op}
 use Rattle.ts_hull.specs.Sealed.{sealed_op, span_in}
 use Rattle.ts_sweep.specs.declared.packed.Ends.{Ends}
 use Rattle.ts_sweep.specs.declared.packed.Name.{Name}
@@ -18,10 +23,21 @@ use Rattle.ts_sweep.specs.Small.{IsSmall}
 use Rattle.ts_sweep.specs.Lanes.{least}
 use Rattle.ts_sweep.specs.Packed.{upper, negated, ends, ends_span, ends_at, number_ends, place, ends_in, name_ends, span_in_lanes, name_span, unpacked, IsPlace, IsSomeEnds, AreSome, IsPackOf, IsWithin, AreWithin, IsUnder}
 use Rattle.ts_sweep.specs.PackedLaws.{placed, placed_by, rests_at}
-use Rattle.ts_sweep.specs.Fronts.{word_of, IsFitRegister, ArePlain}
+use Rattle.ts_sweep.specs.Fronts.{word_of, IsFitRegister, ArePlain, AreEndsOf, Serves, IsFor, IsMoveFor, IsNarrowMove}
+use Rattle.ts_sweep.specs.Sides.{Sides, BothEnds, UpperEnds, LowerEnds, IfBelow, IfAbove, IsLower, IsUpper, IsEndsOf}
 use Rattle.ts_sweep.specs.UpperLaws.{upper_low, upper_mid, low_or_not}
 
 -- numbers
+
+pub if_below : (s : Sides) (P : Type 0) → P → IfBelow s P
+if_below BothEnds P p = p
+if_below UpperEnds P p = tt
+if_below LowerEnds P p = p
+
+pub if_above : (s : Sides) (P : Type 0) → P → IfAbove s P
+if_above BothEnds P p = p
+if_above UpperEnds P p = p
+if_above LowerEnds P p = tt
 
 pub small_number : (x : ℤ) → IsSmall x → IsWithin 1 x
 small_number x h = let a = h.0 in let b = h.1 in (omega (arith, ints, a, b), omega (arith, ints, a, b))
@@ -66,16 +82,40 @@ number_packs x h =
       span = is;
     }
 
-pub low_packs : IsPackOf (ends (pos 9223372036854775807) (negsuc 9223372036854775806)) (one_span NegInf)
-low_packs = record {
-  some = record { below = grind (arith, ints); above = grind (arith, ints); some = refl };
-  span = refl;
+-- the kept ends of a number, and of an infinity
+
+number_low : (x : ℤ) → IsWithin 1 x → IsLower (neg_ℤ x) (Int x)
+number_low x h =
+    (above_least (neg_ℤ x) (neg_small x h), ap negated (upper_small (neg_ℤ x) (neg_small x h)) ∙ ap Int (neg_neg x))
+
+number_high : (x : ℤ) → IsWithin 1 x → IsUpper x (Int x)
+number_high x h = (above_least x h, upper_small x h)
+
+pub number_ends_of : (s : Sides) (x : ℤ) → IsWithin 1 x → IsEndsOf s (ends (neg_ℤ x) x) (one_span (Int x))
+number_ends_of s x h = record {
+  some = one_some (Int x);
+  below = if_below s (IsLower (neg_ℤ x) (Int x)) (number_low x h);
+  above = if_above s (IsUpper x (Int x)) (number_high x h);
 }
 
-pub high_packs : IsPackOf (ends (negsuc 9223372036854775806) (pos 9223372036854775807)) (one_span PosInf)
-high_packs = record {
-  some = record { below = grind (arith, ints); above = grind (arith, ints); some = refl };
-  span = refl;
+low_above : least <ℤ negsuc 9223372036854775806
+low_above = grind (arith, ints)
+
+high_above : least <ℤ pos 9223372036854775807
+high_above = grind (arith, ints)
+
+pub low_ends : (s : Sides) → IsEndsOf s (ends (pos 9223372036854775807) (negsuc 9223372036854775806)) (one_span NegInf)
+low_ends s = record {
+  some = refl;
+  below = if_below s (IsLower (pos 9223372036854775807) NegInf) (high_above, refl);
+  above = if_above s (IsUpper (negsuc 9223372036854775806) NegInf) (low_above, refl);
+}
+
+pub high_ends : (s : Sides) → IsEndsOf s (ends (negsuc 9223372036854775806) (pos 9223372036854775807)) (one_span PosInf)
+high_ends s = record {
+  some = refl;
+  below = if_below s (IsLower (negsuc 9223372036854775806) PosInf) (low_above, refl);
+  above = if_above s (IsUpper (pos 9223372036854775807) PosInf) (high_above, refl);
 }
 
 pub never_added : {A : Type 0} → true ≡ false → A
@@ -103,14 +143,35 @@ pack_at n xs (Some p) lt h = record { some = some_ends n p xs lt h; span = refl 
 pub name_packs : (n : ℕ) (xs : List ℤ) (k : Name) → 6 ≤ n → AreSome n xs → IsPackOf (name_ends xs k) (name_span xs k)
 name_packs n xs k big h = pack_at n xs (place (length xs) k) (placed_by n xs k big h.len) h
 
-pub register_packs : (n : ℕ) (k : Name) (xs : List ℤ) (x y : ℤ) → 6 ≤ n → AreSome n xs →
-    IsPackOf (name_ends xs k) (span_in (Leaf (word_of k)) (unpacked xs) x y)
-unfolding unpacked
-register_packs n C xs x y big h = name_packs n xs C big h
-register_packs n E xs x y big h = name_packs n xs E big h
-register_packs n D xs x y big h = name_packs n xs D big h
-register_packs n F xs x y big h = name_packs n xs F big h
-register_packs n R xs x y big h = name_packs n xs R big h
+pub register_packs : (s : Sides) (k : Name) (xs : List ℤ) (h : Hull) (x y : ℤ) → AreEndsOf s xs h →
+    IsEndsOf s (name_ends xs k) (span_in (Leaf (word_of k)) h x y)
+register_packs s C xs h x y are = are C
+register_packs s E xs h x y are = are E
+register_packs s D xs h x y are = are D
+register_packs s F xs h x y are = are F
+register_packs s R xs h x y are = are R
+
+-- which ends serve an expression, its parts and its operator
+pub for_parts : (s : Sides) (o : Op) (f g : Formula) → IsFor s (Join (Fold o) f g) → IsFor s f × IsFor s g
+for_parts BothEnds o f g h = (tt, tt)
+for_parts UpperEnds o f g h = and_parts (is_narrow f) (is_narrow g) h
+for_parts LowerEnds o f g h = and_parts (is_narrow f) (is_narrow g) h
+
+pub parts_served : (s : Sides) (o : Operator) (f g : Formula) → IsFor s (Join o f g) → Serves s o × IsFor s f ×
+    IsFor s g
+parts_served s (Fold o) f g h = let p = for_parts s o f g h in (tt, p.0, p.1)
+parts_served BothEnds Sub f g h = (refl, tt, tt)
+parts_served UpperEnds Sub f g h = cc
+parts_served LowerEnds Sub f g h = cc
+
+-- narrow moves serve one end alone, others both
+pub move_for : (s : Sides) (wide : Bool) (m : Move) → (s ≡ BothEnds) ⊎ (wide ≡ false) →
+    (wide ≡ false → IsNarrowMove m) → IsMoveFor s m
+move_for BothEnds wide m alone narrow = (tt, tt, tt)
+move_for UpperEnds wide m (inl e) narrow = cc
+move_for UpperEnds wide m (inr f) narrow = narrow f
+move_for LowerEnds wide m (inl e) narrow = cc
+move_for LowerEnds wide m (inr f) narrow = narrow f
 
 -- a register that is no more than 10^16 in a cover is a small number in all lanes under it
 
@@ -143,7 +204,7 @@ plain_within x y some px py = elim (low_or_not x) [
   ]
 ]
 
-plain_at : (n : ℕ) (o : Option ℕ) (cover xs : List ℤ) → IsPlace n o → AreSome n xs → IsUnder xs cover →
+pub plain_at : (n : ℕ) (o : Option ℕ) (cover xs : List ℤ) → IsPlace n o → AreSome n xs → IsUnder xs cover →
     ArePlain (ends_in cover o) → AreWithin 1 (ends_in xs o)
 plain_at n None cover xs lt h under plain = number_within (pos 0) zero_is_small
 plain_at n (Some p) cover xs lt h under plain =
@@ -184,16 +245,17 @@ join_within adds joined i j FA FB a b within wa wb h =
     subst (λ k. AreWithin k (joined a b)) same (within i j a b (omega (arith, few)) (wa (omega (arith, few)) h.1)
     (wb (omega (arith, few)) h.2))
 
-pub join_packs : (adds : Bool) (joined : Ends → Ends → Ends) (op : Operator) (i j : ℕ) (FA FB : Bool → Type 0)
-    (a b : Ends) (s t : Span) →
-    ((i j : ℕ) (a b : Ends) (s t : Span) → i + j ≤ 10 → (adds ≡ true → AreWithin i a × AreWithin j b) → IsPackOf a s →
-    IsPackOf b t →
-    IsPackOf (joined a b) (sealed_op op s t)) → (FA true → FA false) → (FB true → FB false) →
-    (i ≤ 9 → FA true → AreWithin i a) → (j ≤ 9 → FB true → AreWithin j b) → (FA false → IsPackOf a s) →
-    (FB false → IsPackOf b t) →
-    (i + j ≤ 9) × FA (false || adds) × FB (false || adds) → IsPackOf (joined a b) (sealed_op op s t)
-join_packs adds joined op i j FA FB a b s t packs la lb wa wb pa pb h =
+pub join_packs : (s : Sides) (adds : Bool) (joined : Ends → Ends → Ends) (op : Operator) (i j : ℕ)
+    (FA FB : Bool → Type 0) (a b : Ends) (f g : Formula) (t u : Span) →
+    ((s : Sides) (i j : ℕ) (a b : Ends) (t u : Span) → Serves s op → i + j ≤ 10 →
+    (adds ≡ true → AreWithin i a × AreWithin j b) → IsEndsOf s a t → IsEndsOf s b u →
+    IsEndsOf s (joined a b) (sealed_op op t u)) → (FA true → FA false) → (FB true → FB false) →
+    (i ≤ 9 → FA true → AreWithin i a) → (j ≤ 9 → FB true → AreWithin j b) → (IsFor s f → FA false → IsEndsOf s a t) →
+    (IsFor s g → FB false → IsEndsOf s b u) → IsFor s (Join op f g) →
+    (i + j ≤ 9) × FA (false || adds) × FB (false || adds) → IsEndsOf s (joined a b) (sealed_op op t u)
+join_packs s adds joined op i j FA FB a b f g t u packs la lb wa wb pa pb suits h =
     let few = h.0 in
-    packs i j a b s t (omega (arith, few))
+    let parts = parts_served s op f g suits in
+    packs s i j a b t u parts.0 (omega (arith, few))
     (λ e. (wa (omega (arith, few)) (subst FA e h.1), wb (omega (arith, few)) (subst FB e h.2)))
-    (pa (to_loose adds FA la h.1)) (pb (to_loose adds FB lb h.2))
+    (pa parts.1 (to_loose adds FA la h.1)) (pb parts.2 (to_loose adds FB lb h.2))

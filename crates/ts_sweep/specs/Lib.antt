@@ -4,8 +4,10 @@ pub mod Sweeps
 pub mod Lanes
 pub mod LaneLaws
 pub mod Packed
+pub mod Sides
 pub mod UpperLaws
 pub mod PackedLaws
+pub mod SidesLaws
 pub mod Operators
 pub mod OperatorLaws
 pub mod Fronts
@@ -13,6 +15,7 @@ pub mod FrontLaws
 pub mod TailLaws
 pub mod Moves
 pub mod MoveLaws
+pub mod Covers
 pub mod Trees
 pub mod TreeLaws
 pub mod Strided

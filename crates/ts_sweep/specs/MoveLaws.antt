@@ -9,12 +9,13 @@ use Rattle.ts_base.specs.declared.ext.Ext.TheVariants.{Int}
 use Rattle.ts_base.specs.declared.span.Span.{Span}
 use Rattle.ts_base.specs.Spans.{has_some, one_span}
 use Rattle.ts_automaton.specs.declared.expr.Atom.TheVariants.{E as AtomE, F as AtomF}
-use Rattle.ts_automaton.specs.Formula.{Leaf}
+use Rattle.ts_automaton.specs.Formula.{Formula, Leaf}
 use Rattle.ts_automaton.specs.Registers.{map_each, spans_of}
 use Rattle.ts_automaton.proofs.Five.{some_registers, none_registers}
 use Rattle.ts_hull.specs.Hulls.{hull_of, none as none_hull}
 use Rattle.ts_hull.specs.Sealed.{some_hull}
-use Rattle.ts_hull.specs.Splits.{Split, FrontOf, front_span, closed_span}
+use Rattle.ts_hull.specs.Splits.{Split, FrontOf, TailOf, ByPairs, front_span, closed_span}
+use Rattle.ts_automaton.specs.declared.regs.Hull.{Hull}
 use Rattle.ts_hull.specs.Cuts.{Cut, front_hull, closed_hull}
 use Rattle.ts_hull.proofs.HullLaws.{same_hull}
 use Rattle.ts_hull.proofs.SplitLaws.{closed_hull_none}
@@ -25,7 +26,10 @@ use Rattle.ts_sweep.specs.Lanes.{least, no_lanes, some_lanes, greater_of}
 use Rattle.ts_sweep.specs.LaneLaws.{lanes_neutral, lanes_commutative, lanes_idempotent}
 use Rattle.ts_sweep.specs.Packed.{ends_at, ends_span, register_span, is_wide, place_in, place, ends_in, with_ends_at, with_ends_in, span_in_lanes, name_span, hull_by, unpacked, max_ends, IsPlace, IsSomeEnds, AreSome, IsPacked, IsPackOf}
 use Rattle.ts_sweep.specs.PackedLaws.{some_lanes_are, same_ends, some_greater, greater_ends, placed, rests_at, name_some, same_by, none_unpacked, joined_packed}
+use Rattle.ts_sweep.specs.Fronts.{AreEndsOf, IsCutFor, IsFor, IsSplitFor}
 use Rattle.ts_sweep.specs.FrontLaws.{pack_at, never_added}
+use Rattle.ts_sweep.specs.Sides.{Sides, BothEnds, UpperEnds, LowerEnds, IsEndsOf, as_read, kept_ends, read_ends, seen, seen_hull}
+use Rattle.ts_sweep.specs.SidesLaws.{both_kept, ends_of_pack, kept_packs, narrow_or_both, read_in, read_kept, read_length, read_pack}
 use Rattle.ts_sweep.specs.Moves.{of_name, rest_split, of_width, kept_cut, IsFrontOf, IsClosingOf, replaced_all, with_all, beside, ends_by, IfPlaced, IsFitFor, IsClosableBy}
 
 -- lanes with other ends at a place
@@ -238,32 +242,51 @@ pub front_none : (k : Cut) (v : ℤ) → front_hull k none_hull v ≡ none_hull
 unfolding front_hull
 front_none k v = ap (λ b. cond b (hull_of (map_each (λ p. front_span p none_hull v) k)) none_hull) none_registers
 
-pub nothing_front : (k : Cut) (n : ℕ) (v : ℤ) → 6 ≤ n → IsFrontOf k n (no_lanes n) v (no_lanes n)
-nothing_front k n v big =
-    (inl refl, none_unpacked n big ∙ sym (ap (λ h. front_hull k h v) (none_unpacked n big) ∙ front_none k v))
+seen_none : (s : Sides) → seen_hull s none_hull ≡ none_hull
+seen_none BothEnds = refl
+seen_none UpperEnds = refl
+seen_none LowerEnds = refl
 
-pub nothing_closing : (k : Cut) (n : ℕ) (w : ℤ) → 6 ≤ n → IsClosingOf k n (no_lanes n) w (no_lanes n)
-nothing_closing k n w big =
-    (inl refl, none_unpacked n big ∙ sym (ap (λ h. closed_hull k h w) (none_unpacked n big) ∙ closed_hull_none k w))
+pub nothing_front : (s : Sides) (k : Cut) (n : ℕ) (v : ℤ) → 6 ≤ n → IsFrontOf s k n (no_lanes n) v (no_lanes n)
+nothing_front s k n v big = (
+  inl refl,
+  none_unpacked n big ∙ sym (ap (seen_hull s) (ap (λ h. front_hull k h v) (none_unpacked n big) ∙ front_none k v)
+      ∙ seen_none s),
+)
 
-pub some_front : (k : Cut) (n : ℕ) (xs : List ℤ) (v : ℤ) (e : Name → Ends) → 6 ≤ n → AreSome n xs →
-    ((m : Name) → IsPackAt (place n m) (e m) (front_span (of_name k m) (unpacked xs) v)) →
-    IsFrontOf k n xs v (with_all n xs e)
+pub nothing_closing : (s : Sides) (k : Cut) (n : ℕ) (w : ℤ) → 6 ≤ n → IsClosingOf s k n (no_lanes n) w (no_lanes n)
+nothing_closing s k n w big = (
+  inl refl,
+  none_unpacked n big ∙ sym (ap (seen_hull s) (ap (λ h. closed_hull k h w) (none_unpacked n big) ∙ closed_hull_none k w)
+      ∙ seen_none s),
+)
+
+-- what is seen of a register
+abbrev pub seen_at : Sides → Name → Span → Span
+seen_at s C t = seen s t
+seen_at s E t = t
+seen_at s D t = seen s t
+seen_at s F t = t
+seen_at s R t = seen s t
+
+pub some_front : (s : Sides) (k : Cut) (n : ℕ) (xs : List ℤ) (v : ℤ) (e : Name → Ends) → 6 ≤ n → AreSome n xs →
+    ((m : Name) → IsPackAt (place n m) (e m) (seen_at s m (front_span (of_name k m) (unpacked xs) v))) →
+    IsFrontOf s k n xs v (with_all n xs e)
 unfolding front_hull
-some_front k n xs v e big h p = (
-  inr (all_packed n xs e (λ m. front_span (of_name k m) (unpacked xs) v) big h p),
-  all_unpacked n xs e (λ m. front_span (of_name k m) (unpacked xs) v) big h p
-      ∙ sym (ap (λ b. cond b (hull_of (map_each (λ q. front_span q (unpacked xs) v) k)) none_hull)
+some_front s k n xs v e big h p = (
+  inr (all_packed n xs e (λ m. seen_at s m (front_span (of_name k m) (unpacked xs) v)) big h p),
+  all_unpacked n xs e (λ m. seen_at s m (front_span (of_name k m) (unpacked xs) v)) big h p
+      ∙ sym (ap (λ b. seen_hull s (cond b (hull_of (map_each (λ q. front_span q (unpacked xs) v) k)) none_hull))
       (some_unpacked n xs big h)),
 )
 
-pub some_closing : (k : Cut) (n : ℕ) (xs : List ℤ) (w : ℤ) (e : Name → Ends) → 6 ≤ n → AreSome n xs →
-    ((m : Name) → IsPackAt (place n m) (e m) (closed_span (of_name k m) (name_span xs m) w)) →
-    IsClosingOf k n xs w (with_all n xs e)
+pub some_closing : (s : Sides) (k : Cut) (n : ℕ) (xs : List ℤ) (w : ℤ) (e : Name → Ends) → 6 ≤ n → AreSome n xs →
+    ((m : Name) → IsPackAt (place n m) (e m) (seen_at s m (closed_span (of_name k m) (name_span xs m) w))) →
+    IsClosingOf s k n xs w (with_all n xs e)
 unfolding closed_hull unpacked
-some_closing k n xs w e big h p = (
-  inr (all_packed n xs e (λ m. closed_span (of_name k m) (name_span xs m) w) big h p),
-  all_unpacked n xs e (λ m. closed_span (of_name k m) (name_span xs m) w) big h p,
+some_closing s k n xs w e big h p = (
+  inr (all_packed n xs e (λ m. seen_at s m (closed_span (of_name k m) (name_span xs m) w)) big h p),
+  all_unpacked n xs e (λ m. seen_at s m (closed_span (of_name k m) (name_span xs m) w)) big h p,
 )
 
 -- a register of a width by its name
@@ -275,6 +298,28 @@ pub pack_name : (n : ℕ) (xs : List ℤ) (k : Name) → 6 ≤ n → AreSome n x
     IsPackOf (ends_in xs (place n k)) (name_span xs k)
 pack_name n xs k big h =
     subst (IsPackOf (ends_in xs (place n k))) (sym (name_at n xs k h.len)) (pack_at n xs (place n k) (placed n k big) h)
+
+-- as it is read
+pub read_name : (s : Sides) (n : ℕ) (xs : List ℤ) (k : Name) → 6 ≤ n → AreSome n xs →
+    IsEndsOf s (ends_in (as_read s xs) (place n k)) (name_span xs k)
+read_name s n xs k big h =
+    subst (λ e. IsEndsOf s e (name_span xs k)) (sym (read_in s xs (place n k)))
+    (read_pack s _ _ (ends_of_pack s _ _ (pack_name n xs k big h)))
+
+-- all registers, as they are read
+pub read_are : (s : Sides) (n : ℕ) (xs : List ℤ) → 6 ≤ n → AreSome n xs → AreEndsOf s (as_read s xs) (unpacked xs)
+unfolding unpacked
+read_are s n xs big h k =
+    subst (λ m. IsEndsOf s (ends_in (as_read s xs) (place m k)) (of_name (spans_of (hull_by (name_span xs))) k))
+    (sym (read_length s xs ∙ h.len)) (by_name k)
+  where
+    by_name : (k : Name) → IsEndsOf s (ends_in (as_read s xs) (place n k))
+        (of_name (spans_of (hull_by (name_span xs))) k)
+    by_name C = read_name s n xs C big h
+    by_name E = read_name s n xs E big h
+    by_name D = read_name s n xs D big h
+    by_name F = read_name s n xs F big h
+    by_name R = read_name s n xs R big h
 
 -- E and F of narrow lanes
 module _ (n : ℕ) (xs : List ℤ) (big : 6 ≤ n) (h : AreSome n xs) (narrow : is_wide n ≡ false) where
@@ -308,33 +353,43 @@ kept_some n xs v big h = same_hull refl (at_e (is_wide n) refl) refl (at_f (is_w
     at_f true w = refl
     at_f false w = f_rests n xs big h w
 
-pub kept_front : (n : ℕ) (xs : List ℤ) (v : ℤ) → 6 ≤ n → IsPacked n xs → IsFrontOf (kept_cut (is_wide n)) n xs v xs
+pub kept_front : (s : Sides) (n : ℕ) (xs : List ℤ) (v : ℤ) → 6 ≤ n → seen_hull s (unpacked xs) ≡ unpacked xs →
+    IsPacked n xs →
+    IsFrontOf s (kept_cut (is_wide n)) n xs v xs
 unfolding front_hull
-kept_front n xs v big (inl e) =
-    subst (λ zs. IsFrontOf (kept_cut (is_wide n)) n zs v zs) (sym e) (nothing_front (kept_cut (is_wide n)) n v big)
-kept_front n xs v big (inr h) = (
+kept_front s n xs v big shown (inl e) =
+    subst (λ zs. IsFrontOf s (kept_cut (is_wide n)) n zs v zs) (sym e) (nothing_front s (kept_cut (is_wide n)) n v big)
+kept_front s n xs v big shown (inr h) = (
   inr h,
-  kept_some n xs v big h
+  sym shown ∙ ap (seen_hull s) (kept_some n xs v big h
       ∙ sym (ap (λ b. cond b (hull_of (map_each (λ q. front_span q (unpacked xs) v) (kept_cut (is_wide n)))) none_hull)
-      (some_unpacked n xs big h)),
+      (some_unpacked n xs big h))),
 )
 
-pub kept_closing : (n : ℕ) (xs : List ℤ) (w : ℤ) → 6 ≤ n → IsPacked n xs → IsClosingOf (kept_cut (is_wide n)) n xs w xs
+pub kept_closing : (s : Sides) (n : ℕ) (xs : List ℤ) (w : ℤ) → 6 ≤ n → seen_hull s (unpacked xs) ≡ unpacked xs →
+    IsPacked n xs →
+    IsClosingOf s (kept_cut (is_wide n)) n xs w xs
 unfolding closed_hull unpacked
-kept_closing n xs w big p = (
+kept_closing s n xs w big shown p = (
   p,
-  sym (same_hull refl (rest_closed (is_wide n) (FrontOf (Leaf AtomE)) (name_span xs E) w (λ t. refl)) refl
-      (rest_closed (is_wide n) (FrontOf (Leaf AtomF)) (name_span xs F) w (λ t. refl)) refl),
+  sym shown ∙ ap (seen_hull s) (sym (same_hull refl
+      (rest_closed (is_wide n) (FrontOf (Leaf AtomE)) (name_span xs E) w (λ t. refl)) refl
+      (rest_closed (is_wide n) (FrontOf (Leaf AtomF)) (name_span xs F) w (λ t. refl)) refl)),
 )
+
+read_max : (s : Sides) (a b : Ends) → read_ends s (max_ends a b) ≡ max_ends (read_ends s a) (read_ends s b)
+read_max BothEnds a b = refl
+read_max UpperEnds a b = refl
+read_max LowerEnds a b = refl
 
 module _ {X : Type 0} (both : X → X → X) (lanes : X → List ℤ) (n : ℕ) (both_lanes : (a b : X) → lanes (both a b) ≡ greater_of (lanes a) (lanes b)) where
   pub packed_both : (a b : X) → IsPacked n (lanes a) → IsPacked n (lanes b) → IsPacked n (lanes (both a b))
   packed_both a b p q = subst (IsPacked n) (sym (both_lanes a b)) (joined_packed n (lanes a) (lanes b) p q)
 
-  pub parts_both : (can : Name → Ends → Type 0) → ((k : Name) (a b : Ends) → can k a → can k b → can k (max_ends a b)) →
-      (a b : X) →
-      IsClosableBy n can (lanes a) → IsClosableBy n can (lanes b) → IsClosableBy n can (lanes (both a b))
-  parts_both can c a b p q = subst (IsClosableBy n can) (sym (both_lanes a b)) (go p q)
+  pub parts_both : (s : Sides) (can : Name → Ends → Type 0) →
+      ((k : Name) (a b : Ends) → can k a → can k b → can k (max_ends a b)) → (a b : X) →
+      IsClosableBy s n can (lanes a) → IsClosableBy s n can (lanes b) → IsClosableBy s n can (lanes (both a b))
+  parts_both s can c a b p q = subst (IsClosableBy s n can) (sym (both_lanes a b)) (go p q)
     where
       xs : List ℤ
       xs = lanes a
@@ -343,20 +398,24 @@ module _ {X : Type 0} (both : X → X → X) (lanes : X → List ℤ) (n : ℕ) 
       ys = lanes b
 
       both_at : (o : Option ℕ) (k : Name) → IsPlace n o → AreSome n xs → AreSome n ys →
-          IfPlaced o (can k (ends_in xs o)) → IfPlaced o (can k (ends_in ys o)) →
-          IfPlaced o (can k (ends_in (greater_of xs ys) o))
+          IfPlaced o (can k (ends_in (as_read s xs) o)) → IfPlaced o (can k (ends_in (as_read s ys) o)) →
+          IfPlaced o (can k (ends_in (as_read s (greater_of xs ys)) o))
       both_at None k lt h i p q = tt
       both_at (Some r) k lt h i p q =
-          subst (can k) (sym (greater_ends n xs ys r h.len i.len lt)) (c k (ends_at xs r) (ends_at ys r) p q)
+          subst (can k) (sym (read_in s (greater_of xs ys) (Some r)
+          ∙ ap (read_ends s) (greater_ends n xs ys r h.len i.len lt)
+          ∙ read_max s (ends_at xs r) (ends_at ys r)))
+          (c k (read_ends s (ends_at xs r)) (read_ends s (ends_at ys r)) (subst (can k) (read_in s xs (Some r)) p)
+          (subst (can k) (read_in s ys (Some r)) q))
 
-      go : IsClosableBy n can xs → IsClosableBy n can ys → IsClosableBy n can (greater_of xs ys)
+      go : IsClosableBy s n can xs → IsClosableBy s n can ys → IsClosableBy s n can (greater_of xs ys)
       go (inl e) (inl f) =
           inl (ap (λ zs. greater_of zs ys) e ∙ ap (greater_of (no_lanes n)) f ∙ lanes_idempotent (no_lanes n))
       go (inl e) (inr q) =
-          subst (IsClosableBy n can) (sym (ap (λ zs. greater_of zs ys) e
+          subst (IsClosableBy s n can) (sym (ap (λ zs. greater_of zs ys) e
           ∙ lanes_neutral n ys (some_lanes_are n ys q.1))) (inr q)
       go (inr p) (inl f) =
-          subst (IsClosableBy n can)
+          subst (IsClosableBy s n can)
           (sym (lanes_commutative xs ys ∙ ap (λ zs. greater_of zs xs) f ∙ lanes_neutral n xs (some_lanes_are n xs p.1)))
           (inr p)
       go (inr p) (inr q) =
@@ -366,6 +425,19 @@ pub parts_none : {X : Type 0} (lanes : X → List ℤ) (n : ℕ) (none : X) → 
     cond t (cond (some_lanes (lanes none)) x none) none ≡ none
 parts_none lanes n none e true x = ap (λ b. cond b x none) (ap some_lanes e ∙ none_is n)
 parts_none lanes n none e false x = refl
+
+-- both ends serve each expression
+pub both_for : (s : Sides) (f : Formula) → s ≡ BothEnds → IsFor s f
+both_for BothEnds f is = tt
+both_for UpperEnds f is = cc
+both_for LowerEnds f is = cc
+
+both_suits : (s : Sides) (p : Split) → s ≡ BothEnds → IsSplitFor s p
+both_suits BothEnds (FrontOf e) is = tt
+both_suits BothEnds (TailOf o e) is = tt
+both_suits BothEnds ByPairs is = tt
+both_suits UpperEnds p is = cc
+both_suits LowerEnds p is = cc
 
 -- what there is of each register there is of all
 pub by_names : (P : Name → Type 0) → P C → P E → P D → P F → P R → (k : Name) → P k
@@ -398,63 +470,84 @@ or_false false false true d e h = cc
 or_false false false false true e h = cc
 or_false false false false false e h = (refl, refl, refl, refl, h)
 
-module _ {X : Type 0} (lanes : X → List ℤ) (replaced : X → Name → Ends → X) (n : ℕ) (none : X) (none_lanes : lanes none ≡ no_lanes n) (replaced_lanes : (h : X) (k : Name) (e : Ends) → lanes (replaced h k e) ≡ with_ends_in (lanes h) (place n k) e) where
-  one_lanes : (h : X) (zs : List ℤ) (k : Name) (e : Ends) → lanes h ≡ zs →
-      lanes (replaced h k e) ≡ with_ends_in zs (place n k) e
-  one_lanes h zs k e is = replaced_lanes h k e ∙ ap (λ ys. with_ends_in ys (place n k) e) is
+-- the kept ends of all registers
+abbrev pub all_kept : Sides → (Name → Ends) → Name → Ends
+all_kept s e k = kept_ends s (e k)
 
-  pub all_lanes : (h : X) (e : Name → Ends) → lanes (replaced_all replaced h e) ≡ with_all n (lanes h) e
+module _ {X : Type 0} (s : Sides) (lanes : X → List ℤ) (replaced : X → Name → Ends → X) (n : ℕ) (none : X) (none_lanes : lanes none ≡ no_lanes n) (replaced_lanes : (h : X) (k : Name) (e : Ends) → lanes (replaced h k e) ≡ with_ends_in (lanes h) (place n k) (kept_ends s e)) where
+  one_lanes : (h : X) (zs : List ℤ) (k : Name) (e : Ends) → lanes h ≡ zs →
+      lanes (replaced h k e) ≡ with_ends_in zs (place n k) (kept_ends s e)
+  one_lanes h zs k e is = replaced_lanes h k e ∙ ap (λ ys. with_ends_in ys (place n k) (kept_ends s e)) is
+
+  pub all_lanes : (h : X) (e : Name → Ends) → lanes (replaced_all replaced h e) ≡ with_all n (lanes h) (all_kept s e)
   all_lanes h e =
       one_lanes _ _ R (e R) (one_lanes _ _ F (e F)
       (one_lanes _ _ D (e D) (one_lanes _ _ E (e E) (replaced_lanes h C (e C)))))
 
   chosen_some : (h : X) (e : Name → Ends) → 6 ≤ n → AreSome n (lanes h) →
-      lanes (cond (some_lanes (lanes h)) (replaced_all replaced h e) none) ≡ with_all n (lanes h) e
-  chosen_some h e big s =
-      ap (λ b. lanes (cond b (replaced_all replaced h e) none)) (first_is n (lanes h) big s) ∙ all_lanes h e
+      lanes (cond (some_lanes (lanes h)) (replaced_all replaced h e) none) ≡ with_all n (lanes h) (all_kept s e)
+  chosen_some h e big some =
+      ap (λ b. lanes (cond b (replaced_all replaced h e) none)) (first_is n (lanes h) big some) ∙ all_lanes h e
 
   chosen_none : (h : X) (x : X) → lanes h ≡ no_lanes n → lanes (cond (some_lanes (lanes h)) x none) ≡ no_lanes n
   chosen_none h x e = ap (λ b. lanes (cond b x none)) (ap some_lanes e ∙ none_is n) ∙ none_lanes
 
-  module _ (fit : Name → List ℤ → Type 0) (k : Cut) (front : Name → List ℤ → Ends) (v : ℤ) (packs : (m : Name) (xs : List ℤ) → 6 ≤ n → AreSome n xs → fit m xs → IsPackOf (front m xs) (front_span (of_name k m) (unpacked xs) v)) where
+  module _ (alone : (s ≡ BothEnds) ⊎ (is_wide n ≡ false)) (fit : Name → List ℤ → Type 0) (k : Cut) (front : Name → List ℤ → Ends) (v : ℤ) (packs : (m : Name) (xs : List ℤ) (h : Hull) → AreEndsOf s xs h → IsSplitFor s (of_name k m) → fit m xs → IsEndsOf s (front m xs) (front_span (of_name k m) h v)) (suits : IsCutFor s k) where
     -- the front of each register of the width
-    begun_packs : (xs : List ℤ) → 6 ≤ n → AreSome n xs → ((m : Name) → IfPlaced (place n m) (fit m xs)) → (m : Name) →
-        IsPackAt (place n m) (begun_by (is_wide n) front xs m)
-        (front_span (of_name (of_width (is_wide n) k) m) (unpacked xs) v)
-    begun_packs xs big s fits C = packs C xs big s (fits C)
-    begun_packs xs big s fits E = go (is_wide n) (fits E)
+    begun_packs : (xs : List ℤ) → 6 ≤ n → AreSome n xs → ((m : Name) → IfPlaced (place n m) (fit m (as_read s xs))) →
+        (m : Name) →
+        IsPackAt (place n m) (all_kept s (begun_by (is_wide n) front (as_read s xs)) m)
+        (seen_at s m (front_span (of_name (of_width (is_wide n) k) m) (unpacked xs) v))
+    begun_packs xs big some fits C =
+        kept_packs s _ _ (packs C (as_read s xs) (unpacked xs) (read_are s n xs big some) suits.0 (fits C))
+    begun_packs xs big some fits E = go (is_wide n) refl (fits E)
       where
-        go : (b : Bool) → IfPlaced (place_in b E) (fit E xs) →
-            IsPackAt (place_in b E) (beside b (front E xs)) (front_span (rest_split b k.e) (unpacked xs) v)
-        go true f = packs E xs big s f
-        go false f = refl
-    begun_packs xs big s fits D = packs D xs big s (fits D)
-    begun_packs xs big s fits F = go (is_wide n) (fits F)
+        go : (b : Bool) → is_wide n ≡ b → IfPlaced (place_in b E) (fit E (as_read s xs)) →
+            IsPackAt (place_in b E) (kept_ends s (beside b (front E (as_read s xs))))
+            (front_span (rest_split b k.e) (unpacked xs) v)
+        go true w f =
+            let both = narrow_or_both s (is_wide n) alone w in
+            both_kept s _ _ both (packs E (as_read s xs) (unpacked xs) (read_are s n xs big some)
+            (both_suits s k.e both) f)
+        go false w f = refl
+    begun_packs xs big some fits D =
+        kept_packs s _ _ (packs D (as_read s xs) (unpacked xs) (read_are s n xs big some) suits.1 (fits D))
+    begun_packs xs big some fits F = go (is_wide n) refl (fits F)
       where
-        go : (b : Bool) → IfPlaced (place_in b F) (fit F xs) →
-            IsPackAt (place_in b F) (beside b (front F xs)) (front_span (rest_split b k.f) (unpacked xs) v)
-        go true f = packs F xs big s f
-        go false f = refl
-    begun_packs xs big s fits R = packs R xs big s (fits R)
+        go : (b : Bool) → is_wide n ≡ b → IfPlaced (place_in b F) (fit F (as_read s xs)) →
+            IsPackAt (place_in b F) (kept_ends s (beside b (front F (as_read s xs))))
+            (front_span (rest_split b k.f) (unpacked xs) v)
+        go true w f =
+            let both = narrow_or_both s (is_wide n) alone w in
+            both_kept s _ _ both (packs F (as_read s xs) (unpacked xs) (read_are s n xs big some)
+            (both_suits s k.f both) f)
+        go false w f = refl
+    begun_packs xs big some fits R =
+        kept_packs s _ _ (packs R (as_read s xs) (unpacked xs) (read_are s n xs big some) suits.2 (fits R))
 
-    pub parts_front_is : (h : X) → 6 ≤ n → IsFitFor n fit (lanes h) →
-        IsFrontOf (of_width (is_wide n) k) n (lanes h) v
-        (lanes (cond (some_lanes (lanes h)) (replaced_all replaced h (begun_by (is_wide n) front (lanes h))) none))
+    pub parts_front_is : (h : X) → 6 ≤ n → IsFitFor s n fit (lanes h) →
+        IsFrontOf s (of_width (is_wide n) k) n (lanes h) v
+        (lanes (cond (some_lanes (lanes h))
+        (replaced_all replaced h (begun_by (is_wide n) front (as_read s (lanes h)))) none))
     parts_front_is h big (inl e) =
-        subst (IsFrontOf (of_width (is_wide n) k) n (lanes h) v) (sym (chosen_none h _ e))
-        (subst (λ zs. IsFrontOf (of_width (is_wide n) k) n zs v (no_lanes n)) (sym e)
-        (nothing_front (of_width (is_wide n) k) n v big))
+        subst (IsFrontOf s (of_width (is_wide n) k) n (lanes h) v) (sym (chosen_none h _ e))
+        (subst (λ zs. IsFrontOf s (of_width (is_wide n) k) n zs v (no_lanes n)) (sym e)
+        (nothing_front s (of_width (is_wide n) k) n v big))
     parts_front_is h big (inr p) =
-        subst (IsFrontOf (of_width (is_wide n) k) n (lanes h) v)
-        (sym (chosen_some h (begun_by (is_wide n) front (lanes h)) big p.1))
-        (some_front (of_width (is_wide n) k) n (lanes h) v (begun_by (is_wide n) front (lanes h)) big p.1
+        let e = begun_by (is_wide n) front (as_read s (lanes h)) in
+        subst (IsFrontOf s (of_width (is_wide n) k) n (lanes h) v)
+        (sym (chosen_some h e big p.1))
+        (some_front s (of_width (is_wide n) k) n (lanes h) v (all_kept s e) big p.1
         (begun_packs (lanes h) big p.1 p.2))
 
-    closable_at : (can : Name → Ends → Type 0) (o : Option ℕ) (m : Name) (ys : List ℤ) (e : Ends) → HasEnds o ys e →
-        IfPlaced o (can m e) →
-        IfPlaced o (can m (ends_in ys o))
-    closable_at can None m ys e here c = tt
-    closable_at can (Some p) m ys e here c = subst (can m) (sym here) c
+    -- the ends that are kept are read again as they are
+    closable_at : (can : Name → Ends → Type 0) → ((m : Name) (e : Ends) → can m e → can m (read_ends s e)) →
+        (o : Option ℕ)
+        (m : Name) (ys : List ℤ) (e : Ends) → HasEnds o ys (kept_ends s e) → IfPlaced o (can m e) →
+        IfPlaced o (can m (ends_in (as_read s ys) o))
+    closable_at can reads None m ys e here c = tt
+    closable_at can reads (Some p) m ys e here c =
+        subst (can m) (sym (read_in s ys (Some p) ∙ ap (read_ends s) here ∙ read_kept s e)) (reads m e c)
 
     begun_closable : (can : Name → Ends → Type 0) → ((m : Name) (xs : List ℤ) → fit m xs → can m (front m xs)) →
         (xs : List ℤ) →
@@ -475,46 +568,60 @@ module _ {X : Type 0} (lanes : X → List ℤ) (replaced : X → Name → Ends �
     begun_closable can keeps xs fits R = keeps R xs (fits R)
 
     pub parts_front : (can : Name → Ends → Type 0) → ((m : Name) (xs : List ℤ) → fit m xs → can m (front m xs)) →
-        (h : X) → IsFitFor n fit (lanes h) →
-        IsClosableBy n can
-        (lanes (cond (some_lanes (lanes h)) (replaced_all replaced h (begun_by (is_wide n) front (lanes h))) none))
-    parts_front can keeps h (inl e) = inl (chosen_none h _ e)
-    parts_front can keeps h (inr p) =
+        ((m : Name) (e : Ends) → can m e → can m (read_ends s e)) →
+        (h : X) → IsFitFor s n fit (lanes h) →
+        IsClosableBy s n can
+        (lanes (cond (some_lanes (lanes h))
+        (replaced_all replaced h (begun_by (is_wide n) front (as_read s (lanes h)))) none))
+    parts_front can keeps reads h (inl e) = inl (chosen_none h _ e)
+    parts_front can keeps reads h (inr p) =
         let xs = lanes h in
-        let e = begun_by (is_wide n) front xs in
+        let e = begun_by (is_wide n) front (as_read s xs) in
         let whole = of_width (is_wide n) k in
-        subst (IsClosableBy n can) (sym (chosen_some h e p.0 p.1))
+        subst (IsClosableBy s n can) (sym (chosen_some h e p.0 p.1))
         (inr (
           p.0,
-          all_packed n xs e (λ m. front_span (of_name whole m) (unpacked xs) v) p.0 p.1 (begun_packs xs p.0 p.1 p.2),
-          λ m. closable_at can (place n m) m (with_all n xs e) (e m) (all_here n xs e p.0 p.1.len m)
-              (begun_closable can keeps xs p.2 m),
+          all_packed n xs (all_kept s e) (λ m. seen_at s m (front_span (of_name whole m) (unpacked xs) v)) p.0 p.1
+              (begun_packs xs p.0 p.1 p.2),
+          λ m. closable_at can reads (place n m) m (with_all n xs (all_kept s e)) (e m)
+              (all_here n xs (all_kept s e) p.0 p.1.len m)
+              (begun_closable can keeps (as_read s xs) p.2 m),
         ))
 
-  module _ (can : Name → Ends → Type 0) (k : Cut) (tail : Name → Bool) (close : Name → Ends → Ends) (w : ℤ) (packs : (m : Name) (e : Ends) (s : Span) → IsPackOf e s → can m e → IsPackOf (close m e) (closed_span (of_name k m) s w)) (same : (m : Name) → tail m ≡ false → (s : Span) → closed_span (of_name k m) s w ≡ s) where
+  module _ (alone : (s ≡ BothEnds) ⊎ (is_wide n ≡ false)) (shown : (h : X) → 6 ≤ n → IsPacked n (lanes h) → seen_hull s (unpacked (lanes h)) ≡ unpacked (lanes h)) (can : Name → Ends → Type 0) (k : Cut) (tail : Name → Bool) (close : Name → Ends → Ends) (w : ℤ) (packs : (m : Name) (e : Ends) (t : Span) → IsEndsOf s e t → can m e → IsEndsOf s (close m e) (closed_span (of_name k m) t w)) (same : (m : Name) → tail m ≡ false → (t : Span) → closed_span (of_name k m) t w ≡ t) where
     closed_packs : (xs : List ℤ) → 6 ≤ n → AreSome n xs →
-        ((m : Name) → IfPlaced (place n m) (can m (ends_in xs (place n m)))) → (m : Name) →
-        IsPackAt (place n m) (closed_by n close xs m)
-        (closed_span (of_name (of_width (is_wide n) k) m) (name_span xs m) w)
-    closed_packs xs big s cans C = packs C (ends_in xs (place n C)) (name_span xs C) (pack_name n xs C big s) (cans C)
-    closed_packs xs big s cans E = go (is_wide n) refl (pack_name n xs E big s) (cans E)
+        ((m : Name) → IfPlaced (place n m) (can m (ends_in (as_read s xs) (place n m)))) → (m : Name) →
+        IsPackAt (place n m) (all_kept s (closed_by n close (as_read s xs)) m)
+        (seen_at s m (closed_span (of_name (of_width (is_wide n) k) m) (name_span xs m) w))
+    closed_packs xs big some cans C =
+        kept_packs s _ _ (packs C (ends_in (as_read s xs) (place n C)) (name_span xs C) (read_name s n xs C big some)
+        (cans C))
+    closed_packs xs big some cans E = go (is_wide n) refl (read_name s n xs E big some) (cans E)
       where
-        go : (b : Bool) → is_wide n ≡ b → IsPackOf (ends_in xs (place_in b E)) (name_span xs E) →
-            IfPlaced (place_in b E) (can E (ends_in xs (place_in b E))) →
-            IsPackAt (place_in b E) (beside b (close E (ends_in xs (place_in b E))))
+        go : (b : Bool) → is_wide n ≡ b → IsEndsOf s (ends_in (as_read s xs) (place_in b E)) (name_span xs E) →
+            IfPlaced (place_in b E) (can E (ends_in (as_read s xs) (place_in b E))) →
+            IsPackAt (place_in b E) (kept_ends s (beside b (close E (ends_in (as_read s xs) (place_in b E)))))
             (closed_span (rest_split b k.e) (name_span xs E) w)
-        go true t p c = packs E (ends_in xs (place_in true E)) (name_span xs E) p c
-        go false t p c = e_rests n xs big s t
-    closed_packs xs big s cans D = packs D (ends_in xs (place n D)) (name_span xs D) (pack_name n xs D big s) (cans D)
-    closed_packs xs big s cans F = go (is_wide n) refl (pack_name n xs F big s) (cans F)
+        go true t p c =
+            both_kept s _ _ (narrow_or_both s (is_wide n) alone t)
+            (packs E (ends_in (as_read s xs) (place_in true E)) (name_span xs E) p c)
+        go false t p c = e_rests n xs big some t
+    closed_packs xs big some cans D =
+        kept_packs s _ _ (packs D (ends_in (as_read s xs) (place n D)) (name_span xs D) (read_name s n xs D big some)
+        (cans D))
+    closed_packs xs big some cans F = go (is_wide n) refl (read_name s n xs F big some) (cans F)
       where
-        go : (b : Bool) → is_wide n ≡ b → IsPackOf (ends_in xs (place_in b F)) (name_span xs F) →
-            IfPlaced (place_in b F) (can F (ends_in xs (place_in b F))) →
-            IsPackAt (place_in b F) (beside b (close F (ends_in xs (place_in b F))))
+        go : (b : Bool) → is_wide n ≡ b → IsEndsOf s (ends_in (as_read s xs) (place_in b F)) (name_span xs F) →
+            IfPlaced (place_in b F) (can F (ends_in (as_read s xs) (place_in b F))) →
+            IsPackAt (place_in b F) (kept_ends s (beside b (close F (ends_in (as_read s xs) (place_in b F)))))
             (closed_span (rest_split b k.f) (name_span xs F) w)
-        go true t p c = packs F (ends_in xs (place_in true F)) (name_span xs F) p c
-        go false t p c = f_rests n xs big s t
-    closed_packs xs big s cans R = packs R (ends_in xs (place n R)) (name_span xs R) (pack_name n xs R big s) (cans R)
+        go true t p c =
+            both_kept s _ _ (narrow_or_both s (is_wide n) alone t)
+            (packs F (ends_in (as_read s xs) (place_in true F)) (name_span xs F) p c)
+        go false t p c = f_rests n xs big some t
+    closed_packs xs big some cans R =
+        kept_packs s _ _ (packs R (ends_in (as_read s xs) (place n R)) (name_span xs R) (read_name s n xs R big some)
+        (cans R))
 
     closed_same : (xs : List ℤ) → any_tail tail ≡ false →
         unpacked xs ≡ closed_hull (of_width (is_wide n) k) (unpacked xs) w
@@ -526,10 +633,10 @@ module _ {X : Type 0} (lanes : X → List ℤ) (replaced : X → Name → Ends �
         (same D no.2 (name_span xs D)) (rest_closed (is_wide n) k.f (name_span xs F) w
         (λ t. same F no.3 (name_span xs F))) (same R no.4 (name_span xs R)))
 
-    pub parts_closing_is : (h : X) → 6 ≤ n → IsClosableBy n can (lanes h) →
-        IsClosingOf (of_width (is_wide n) k) n (lanes h) w
+    pub parts_closing_is : (h : X) → 6 ≤ n → IsClosableBy s n can (lanes h) →
+        IsClosingOf s (of_width (is_wide n) k) n (lanes h) w
         (lanes (cond (any_tail tail) (cond (some_lanes (lanes h))
-        (replaced_all replaced h (closed_by n close (lanes h))) none) h))
+        (replaced_all replaced h (closed_by n close (as_read s (lanes h)))) none) h))
     parts_closing_is h big can_close = go (any_tail tail) refl can_close
       where
         whole : Cut
@@ -539,18 +646,19 @@ module _ {X : Type 0} (lanes : X → List ℤ) (replaced : X → Name → Ends �
         xs = lanes h
 
         new : X
-        new = replaced_all replaced h (closed_by n close xs)
+        new = replaced_all replaced h (closed_by n close (as_read s xs))
 
-        go : (t : Bool) → any_tail tail ≡ t → IsClosableBy n can xs →
-            IsClosingOf whole n xs w (lanes (cond t (cond (some_lanes xs) new none) h))
+        go : (t : Bool) → any_tail tail ≡ t → IsClosableBy s n can xs →
+            IsClosingOf s whole n xs w (lanes (cond t (cond (some_lanes xs) new none) h))
         go true e (inl f) =
-            subst (IsClosingOf whole n xs w) (sym (chosen_none h new f))
-            (subst (λ zs. IsClosingOf whole n zs w (no_lanes n)) (sym f) (nothing_closing whole n w big))
+            subst (IsClosingOf s whole n xs w) (sym (chosen_none h new f))
+            (subst (λ zs. IsClosingOf s whole n zs w (no_lanes n)) (sym f) (nothing_closing s whole n w big))
         go true e (inr p) =
-            subst (IsClosingOf whole n xs w) (sym (chosen_some h (closed_by n close xs) big p.1))
-            (some_closing whole n xs w (closed_by n close xs) big p.1 (closed_packs xs big p.1 p.2))
-        go false e (inl f) = subst (λ zs. IsClosingOf whole n zs w zs) (sym f) (nothing_closing whole n w big)
-        go false e (inr p) = (inr p.1, closed_same xs e)
+            subst (IsClosingOf s whole n xs w) (sym (chosen_some h (closed_by n close (as_read s xs)) big p.1))
+            (some_closing s whole n xs w (all_kept s (closed_by n close (as_read s xs))) big p.1
+            (closed_packs xs big p.1 p.2))
+        go false e (inl f) = subst (λ zs. IsClosingOf s whole n zs w zs) (sym f) (nothing_closing s whole n w big)
+        go false e (inr p) = (inr p.1, sym (shown h big (inr p.1)) ∙ ap (seen_hull s) (closed_same xs e))
 
 -- what is placed for E and F where lanes are wide
 pub wide_of : (wide : Bool) (P : Type 0) → IfPlaced (place_in wide E) P → wide ≡ true → P

@@ -10,6 +10,7 @@ use Rattle.ts_sweep.specs.declared.packed.Name.{Name}
 use Rattle.ts_sweep.specs.declared.packed.Name.TheVariants.{C, E, D, F, R}
 use Rattle.ts_sweep.specs.Lanes.{no_lanes}
 use Rattle.ts_sweep.specs.Packed.{number_ends, place, ends_in, with_ends_in, unpacked, AreSome, IsPacked}
+use Rattle.ts_sweep.specs.Sides.{Sides, as_read, seen_hull}
 
 -- what there is for a register
 abbrev pub of_name : {A : Type 0} → EachOf A → Name → A
@@ -33,13 +34,13 @@ kept_cut wide =
     (each (FrontOf (Leaf AtomC)) (FrontOf (Leaf AtomE)) (FrontOf (Leaf AtomD)) (FrontOf (Leaf AtomF))
     (FrontOf (Leaf AtomR)))
 
--- lanes ys stand for the fronts of the hull in lanes xs at a value
-abbrev pub IsFrontOf : Cut → ℕ → List ℤ → ℤ → List ℤ → Type 0
-IsFrontOf k n xs v ys = IsPacked n ys × (unpacked ys ≡ front_hull k (unpacked xs) v)
+-- lanes ys stand for what is seen of the fronts of the hull in lanes xs at a value
+abbrev pub IsFrontOf : Sides → Cut → ℕ → List ℤ → ℤ → List ℤ → Type 0
+IsFrontOf s k n xs v ys = IsPacked n ys × (unpacked ys ≡ seen_hull s (front_hull k (unpacked xs) v))
 
 -- and for what the next value makes of it
-abbrev pub IsClosingOf : Cut → ℕ → List ℤ → ℤ → List ℤ → Type 0
-IsClosingOf k n xs w ys = IsPacked n ys × (unpacked ys ≡ closed_hull k (unpacked xs) w)
+abbrev pub IsClosingOf : Sides → Cut → ℕ → List ℤ → ℤ → List ℤ → Type 0
+IsClosingOf s k n xs w ys = IsPacked n ys × (unpacked ys ≡ seen_hull s (closed_hull k (unpacked xs) w))
 
 -- the ends of all registers are replaced
 abbrev pub replaced_all : {X : Type 0} → (X → Name → Ends → X) → X → (Name → Ends) → X
@@ -105,11 +106,13 @@ abbrev pub IfPlaced : Option ℕ → Type 0 → Type 0
 IfPlaced None P = Unit {0}
 IfPlaced (Some p) P = P
 
--- nothing, or lanes in which registers lie and that are fit for each part
-abbrev pub IsFitFor : ℕ → (Name → List ℤ → Type 0) → List ℤ → Type 0
-IsFitFor n fit xs = (xs ≡ no_lanes n) ⊎ ((6 ≤ n) × AreSome n xs × ((k : Name) → IfPlaced (place n k) (fit k xs)))
+-- nothing, or lanes in which registers lie and that are fit, as they are read, for each part
+abbrev pub IsFitFor : Sides → ℕ → (Name → List ℤ → Type 0) → List ℤ → Type 0
+IsFitFor s n fit xs =
+    (xs ≡ no_lanes n) ⊎ ((6 ≤ n) × AreSome n xs × ((k : Name) → IfPlaced (place n k) (fit k (as_read s xs))))
 
--- nothing, or lanes in which registers lie that each part may close
-abbrev pub IsClosableBy : ℕ → (Name → Ends → Type 0) → List ℤ → Type 0
-IsClosableBy n can xs =
-    (xs ≡ no_lanes n) ⊎ ((6 ≤ n) × AreSome n xs × ((k : Name) → IfPlaced (place n k) (can k (ends_in xs (place n k)))))
+-- nothing, or lanes in which registers lie that each part, as they are read, may close
+abbrev pub IsClosableBy : Sides → ℕ → (Name → Ends → Type 0) → List ℤ → Type 0
+IsClosableBy s n can xs =
+    (xs ≡ no_lanes n)
+    ⊎ ((6 ≤ n) × AreSome n xs × ((k : Name) → IfPlaced (place n k) (can k (ends_in (as_read s xs) (place n k)))))

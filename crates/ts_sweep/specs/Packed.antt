@@ -1,5 +1,5 @@
 -- Hulls in packed form: what their lanes stand for.
-use Rattle.std.specs.Prelude.{◌≡◌, ◌⊎◌, ◌<◌, ◌≤◌, ◌+◌, ◌*◌, ℕ, ◌<ℤ◌, ◌≤ℤ◌, ℤ, pos, negsuc, neg_ℤ, Bool, true, cond, if◌then◌else◌, int_le, nat_le, Option, None, Some, List, length, get_or, set}
+use Rattle.std.specs.Prelude.{◌≡◌, ◌⊎◌, ◌<◌, ◌≤◌, ◌+◌, ◌*◌, ℕ, ◌<ℤ◌, ◌≤ℤ◌, ℤ, pos, negsuc, neg_ℤ, Bool, true, cond, ◌&&◌, if◌then◌else◌, int_le, nat_le, Option, None, Some, List, length, get_or, set}
 use Rattle.std.specs.Int.{int_max}
 use Rattle.ts_base.specs.declared.ext.Ext.{Ext}
 use Rattle.ts_base.specs.declared.ext.Ext.TheVariants.{NegInf, Int, PosInf}
@@ -7,6 +7,7 @@ use Rattle.ts_base.specs.declared.span.Span.{Span}
 use Rattle.ts_base.specs.Spans.{has_some, none_span, one_span}
 use Rattle.ts_automaton.specs.declared.regs.Hull.{Hull}
 use Rattle.ts_hull.specs.Sealed.{hull_with}
+use Rattle.ts_hull.specs.Smalls.{small_span}
 use Rattle.ts_sweep.specs.declared.packed.Ends.{Ends}
 use Rattle.ts_sweep.specs.declared.packed.Name.{Name}
 use Rattle.ts_sweep.specs.declared.packed.Name.TheVariants.{C, E, D, F, R}
@@ -137,3 +138,10 @@ IsWithin k x = (neg_ℤ (pos (k * 10000000000000000)) ≤ℤ x) × (x ≤ℤ pos
 
 abbrev pub AreWithin : ℕ → Ends → Type 0
 AreWithin k e = IsWithin k e.below × IsWithin k e.above
+
+-- no end of a register is a number above 10^16 in size
+abbrev pub small_lanes : List ℤ → Bool
+small_lanes xs =
+    small_span (ends_span (name_ends xs C)) && small_span (ends_span (name_ends xs E))
+    && small_span (ends_span (name_ends xs D)) && small_span (ends_span (name_ends xs F))
+    && small_span (ends_span (name_ends xs R))

@@ -130,7 +130,7 @@ get_greater (x ∷ xs) [] k p q = absurd (omega (arith, q))
 get_greater (x ∷ xs) (y ∷ ys) zero p q = refl
 get_greater (x ∷ xs) (y ∷ ys) (suc k) p q = get_greater xs ys k (omega (arith, p)) (omega (arith, q))
 
-length_greater : (xs ys : List ℤ) → length xs ≡ length ys → length (greater_of xs ys) ≡ length xs
+pub length_greater : (xs ys : List ℤ) → length xs ≡ length ys → length (greater_of xs ys) ≡ length xs
 unfolding greater_of
 length_greater [] ys e = refl
 length_greater (x ∷ xs) [] e = sym e

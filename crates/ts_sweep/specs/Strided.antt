@@ -29,10 +29,6 @@ pub record IsPackable (n : ℕ) (h : Hull) : Type 0 where
   pub small : small_hull h ≡ true
   pub rests : is_wide n ≡ false → some_hull h ≡ true → HoldZero (spans_of h)
 
--- the greatest number in each lane
-abbrev pub greatest_lanes : ℕ → List ℤ
-greatest_lanes n = replicate n (pos 9223372036854775807)
-
 -- the hull of a state, one of so many, at a place
 abbrev pub packed_at : (n states state : ℕ) → List Hull → ℕ → PackedHull n
 packed_at n states state row i = record { at = lanes_of n (hull_in states state row i) }

@@ -1,6 +1,6 @@
 -- The laws of tails.
 -- Lemmas, no definitions: they are here since ghost members of impls cite them.
-use Rattle.std.proofs.Common.{◌≡◌, ℕ, ◌+◌, ◌≤◌, ℤ, neg_ℤ, Bool, true, false, subst, arith}
+use Rattle.std.proofs.Common.{◌≡◌, ℕ, ◌+◌, ◌≤◌, ℤ, pos, neg_ℤ, Bool, true, false, sym, subst, arith}
 use Rattle.std.specs.Int.{int_max}
 use Rattle.std.proofs.lemmas.Int.{ints}
 use Rattle.ts_base.specs.declared.ext.Ext.TheVariants.{Int}
@@ -13,8 +13,10 @@ use Rattle.ts_automaton.specs.Registers.{ext_op}
 use Rattle.ts_hull.specs.Sealed.{by_ends, sealed_op}
 use Rattle.ts_sweep.specs.declared.packed.Ends.{Ends}
 use Rattle.ts_sweep.specs.Small.{IsSmall}
-use Rattle.ts_sweep.specs.Packed.{ends, IsPackOf, IsWithin, AreWithin, max_ends}
-use Rattle.ts_sweep.specs.FrontLaws.{small_number, number_packs, number_within}
+use Rattle.ts_sweep.specs.Fronts.{Serves}
+use Rattle.ts_sweep.specs.FrontLaws.{small_number, number_ends_of, number_within}
+use Rattle.ts_sweep.specs.Packed.{ends, IsWithin, AreWithin, max_ends}
+use Rattle.ts_sweep.specs.Sides.{Sides, BothEnds, UpperEnds, LowerEnds, IsEndsOf, read_ends}
 
 max_same : (i : ℕ) (x y : ℤ) → IsWithin i x → IsWithin i y → IsWithin i (int_max x y)
 max_same i x y h k =
@@ -37,14 +39,25 @@ pub tail_loose : (adds : Bool) (F : Bool → Type 0) → (F true → F false) �
 tail_loose true F l h = l h
 tail_loose false F l h = h
 
-pub tail_packs : (adds : Bool) (joined : Ends → Ends → Ends) (op : Operator) (fold : Op) (e : Ends) (s : Span) (y : ℤ) →
-    op ≡ Fold fold →
-    ((i j : ℕ) (a b : Ends) (s t : Span) → i + j ≤ 10 → (adds ≡ true → AreWithin i a × AreWithin j b) → IsPackOf a s →
-    IsPackOf b t →
-    IsPackOf (joined a b) (sealed_op op s t)) → IsPackOf e s → (adds ≡ true → AreWithin 9 e) → IsSmall y →
-    IsPackOf (joined e (ends (neg_ℤ y) y)) (by_ends (ext_op fold) s (one_span (Int y)))
-tail_packs adds joined op fold e s y is packs p h small =
-    subst (λ o. IsPackOf (joined e (ends (neg_ℤ y) y)) (sealed_op o s (one_span (Int y)))) is
-    (packs 9 1 e (ends (neg_ℤ y) y) s (one_span (Int y)) (omega arith)
+pub tail_packs : (s : Sides) (adds : Bool) (joined : Ends → Ends → Ends) (op : Operator) (fold : Op) (e : Ends)
+    (t : Span)
+    (y : ℤ) → op ≡ Fold fold →
+    ((s : Sides) (i j : ℕ) (a b : Ends) (t u : Span) → Serves s op → i + j ≤ 10 →
+    (adds ≡ true → AreWithin i a × AreWithin j b) → IsEndsOf s a t → IsEndsOf s b u →
+    IsEndsOf s (joined a b) (sealed_op op t u)) → IsEndsOf s e t → (adds ≡ true → AreWithin 9 e) → IsSmall y →
+    IsEndsOf s (joined e (ends (neg_ℤ y) y)) (by_ends (ext_op fold) t (one_span (Int y)))
+tail_packs s adds joined op fold e t y is packs p h small =
+    subst (λ o. IsEndsOf s (joined e (ends (neg_ℤ y) y)) (sealed_op o t (one_span (Int y)))) is
+    (packs s 9 1 e (ends (neg_ℤ y) y) t (one_span (Int y)) (subst (Serves s) (sym is) tt) (omega arith)
     (λ added. (h added, number_within y (small_number y small))) p
-    (number_packs y (small_number y small)))
+    (number_ends_of s y (small_number y small)))
+
+-- ends that may be closed may be so as they are read
+
+no_within : IsWithin 9 (pos 0)
+no_within = (grind (arith, ints), grind (arith, ints))
+
+pub tail_read : (s : Sides) (e : Ends) → AreWithin 9 e → AreWithin 9 (read_ends s e)
+tail_read BothEnds e h = h
+tail_read UpperEnds e h = (no_within, h.1)
+tail_read LowerEnds e h = (h.0, no_within)

@@ -6,7 +6,6 @@ use Rattle.ts_base.specs.Numbers.{ext_plus, clamp}
 use Rattle.ts_base.specs.declared.ext.Ext.{Ext}
 use Rattle.ts_base.specs.declared.ext.Ext.TheVariants.{NegInf, Int, PosInf}
 use Rattle.ts_base.specs.declared.span.Span.{Span}
-use Rattle.ts_base.specs.Spans.{has_some}
 use Rattle.ts_automaton.specs.declared.expr.Atom.{Atom}
 use Rattle.ts_automaton.specs.declared.expr.Atom.TheVariants.{C, E, D, F, R, This, Next, Zero, Unit as UnitAtom, NegInf as LowAtom, PosInf as HighAtom}
 use Rattle.ts_automaton.specs.declared.expr.Operator.{Operator}
@@ -15,25 +14,21 @@ use Rattle.ts_base.specs.declared.op.Op.{Op}
 use Rattle.ts_base.specs.declared.op.Op.TheVariants.{Add, Max, Min}
 use Rattle.ts_automaton.specs.Formula.{Formula, Leaf, Join}
 use Rattle.ts_automaton.specs.Registers.{ext_op}
+use Rattle.ts_automaton.specs.declared.regs.Hull.{Hull}
 use Rattle.ts_automaton.proofs.KindLaws.{op_mono}
 use Rattle.ts_hull.specs.Sealed.{by_ends, sealed_op, span_in}
-use Rattle.ts_hull.proofs.SpanHulls.{lifted_both, lifted_some}
 use Rattle.ts_sweep.specs.declared.packed.Ends.{Ends}
 use Rattle.ts_sweep.specs.declared.packed.Name.TheVariants.{C as NameC, E as NameE, D as NameD, F as NameF, R as NameR}
 use Rattle.ts_sweep.specs.Small.{IsSmall}
 use Rattle.ts_sweep.specs.Lanes.{least}
-use Rattle.ts_sweep.specs.Packed.{upper, negated, ends_span, unpacked, AreSome, IsPackOf, IsWithin, AreWithin}
+use Rattle.ts_sweep.specs.Packed.{upper, negated, IsWithin, AreWithin}
+use Rattle.ts_sweep.specs.Sides.{Sides, BothEnds, UpperEnds, LowerEnds, IsEndsOf}
 use Rattle.ts_sweep.specs.Operators.{crossed}
 use Rattle.ts_sweep.specs.UpperLaws.{upper_mid}
-use Rattle.ts_sweep.specs.OperatorLaws.{upper_within, some_of, crossed_packs, negated_span, less_is_sum, greater_packs, greater_within, lesser_packs, lesser_within}
-use Rattle.ts_sweep.specs.FrontLaws.{register_packs, number_packs, small_number, one_is_small, zero_is_small, low_packs, high_packs}
+use Rattle.ts_sweep.specs.OperatorLaws.{upper_within, ends_by, crossed_packs, negated_span, less_is_sum, greater_packs, greater_within, lesser_packs, lesser_within}
+use Rattle.ts_sweep.specs.Fronts.{AreEndsOf, IsFor}
+use Rattle.ts_sweep.specs.FrontLaws.{for_parts, number_ends_of, small_number, one_is_small, zero_is_small, low_ends, high_ends}
 use Rattle.ts_sweep.specs.Trees.{lane_of, sum_above, sum_below, folded_by, joined_by, word_ends, tree_value}
-
-abbrev pub span_from : Ext → Ext → Span
-span_from lo hi = record { lo = lo; hi = hi }
-
-both_ends : (a b c d : Ext) → a ≡ c → b ≡ d → span_from a b ≡ span_from c d
-both_ends a b c d p q = cc
 
 -- a sum is an infinity, or a number that is no more than the clamp
 upper_clamped : (x : ℤ) → upper (clamp x) ≡ Int (clamp x)
@@ -95,57 +90,63 @@ lane_below PosInf NegInf = high_above
 lane_below PosInf (Int y) = low_above
 lane_below PosInf PosInf = low_above
 
-clamped_packs : (a b : Ends) (s t : Span) → IsPackOf a s → IsPackOf b t →
-    IsPackOf (folded_by Add a b) (by_ends (ext_op Add) s t)
-clamped_packs a b s t p q =
-    let is : ends_span (folded_by Add a b) ≡ by_ends (ext_op Add) s t =
-    both_ends _ _ _ _ (lane_plus_low (negated (upper a.below)) (negated (upper b.below)))
-    (lane_plus (upper a.above) (upper b.above))
-    ∙ sym (lifted_both (ext_op Add) s t (some_of a s p) (some_of b t q)
-    ∙ ap (λ u. span_from (ext_plus u.lo t.lo) (ext_plus u.hi t.hi)) (sym p.span)
-    ∙ ap (λ u. span_from (ext_plus (negated (upper a.below)) u.lo) (ext_plus (upper a.above) u.hi)) (sym q.span)) in
-    record {
-      some = record {
-        below = lane_below (negated (upper a.below)) (negated (upper b.below));
-        above = lane_above (upper a.above) (upper b.above);
-        some = ap has_some is ∙ lifted_some (ext_op Add) (op_mono Add) s t (some_of a s p) (some_of b t q);
-      };
-      span = is;
-    }
+-- the clamped sum of each end
+clamped_packs : (s : Sides) (a b : Ends) (t u : Span) → IsEndsOf s a t → IsEndsOf s b u →
+    IsEndsOf s (folded_by Add a b) (by_ends (ext_op Add) t u)
+clamped_packs s a b t u p q =
+    ends_by s (ext_op Add) (op_mono Add) a b (folded_by Add a b) t u p q
+    (λ h k. (
+      lane_below (negated (upper a.below)) (negated (upper b.below)),
+      lane_plus_low (negated (upper a.below)) (negated (upper b.below))
+          ∙ ap (λ e. ext_plus e (negated (upper b.below))) h.1 ∙ ap (ext_plus t.lo) k.1,
+    ))
+    (λ h k. (
+      lane_above (upper a.above) (upper b.above),
+      lane_plus (upper a.above) (upper b.above) ∙ ap (λ e. ext_plus e (upper b.above)) h.1 ∙ ap (ext_plus t.hi) k.1,
+    ))
 
-pub any_packs : (o : Op) (a b : Ends) (s t : Span) → IsPackOf a s → IsPackOf b t →
-    IsPackOf (folded_by o a b) (by_ends (ext_op o) s t)
-any_packs Add a b s t p q = clamped_packs a b s t p q
-any_packs Max a b s t p q = greater_packs a b s t p q
-any_packs Min a b s t p q = lesser_packs a b s t p q
+pub any_packs : (o : Op) (s : Sides) (a b : Ends) (t u : Span) → IsEndsOf s a t → IsEndsOf s b u →
+    IsEndsOf s (folded_by o a b) (by_ends (ext_op o) t u)
+any_packs Add s a b t u p q = clamped_packs s a b t u p q
+any_packs Max s a b t u p q = greater_packs s a b t u p q
+any_packs Min s a b t u p q = lesser_packs s a b t u p q
 
-joined_packs : (o : Operator) (a b : Ends) (s t : Span) → IsPackOf a s → IsPackOf b t →
-    IsPackOf (joined_by o a b) (sealed_op o s t)
-joined_packs (Fold o) a b s t p q = any_packs o a b s t p q
-joined_packs Sub a b s t p q =
-    subst (IsPackOf (folded_by Add a (crossed b))) (sym (less_is_sum s t (some_of a s p) (some_of b t q)))
-    (clamped_packs a (crossed b) s (negated_span t) p (crossed_packs b t q))
+both_joined : (o : Operator) (a b : Ends) (t u : Span) → IsEndsOf BothEnds a t → IsEndsOf BothEnds b u →
+    IsEndsOf BothEnds (joined_by o a b) (sealed_op o t u)
+both_joined (Fold o) a b t u p q = any_packs o BothEnds a b t u p q
+both_joined Sub a b t u p q =
+    subst (IsEndsOf BothEnds (folded_by Add a (crossed b))) (sym (less_is_sum t u p.some q.some))
+    (clamped_packs BothEnds a (crossed b) t (negated_span u) p (crossed_packs b u q))
 
 -- the word of a register, a number or an infinity
-word_packs : (w : Atom) (n : ℕ) (xs : List ℤ) (x y : ℤ) → 6 ≤ n → AreSome n xs → IsSmall x → IsSmall y →
-    IsPackOf (word_ends w xs x y) (span_in (Leaf w) (unpacked xs) x y)
-word_packs C n xs x y big h small next = register_packs n NameC xs x y big h
-word_packs E n xs x y big h small next = register_packs n NameE xs x y big h
-word_packs D n xs x y big h small next = register_packs n NameD xs x y big h
-word_packs F n xs x y big h small next = register_packs n NameF xs x y big h
-word_packs R n xs x y big h small next = register_packs n NameR xs x y big h
-word_packs This n xs x y big h small next = number_packs x (small_number x small)
-word_packs Next n xs x y big h small next = number_packs y (small_number y next)
-word_packs Zero n xs x y big h small next = number_packs (pos 0) zero_is_small
-word_packs UnitAtom n xs x y big h small next = number_packs (pos 1) one_is_small
-word_packs LowAtom n xs x y big h small next = low_packs
-word_packs HighAtom n xs x y big h small next = high_packs
+word_packs : (w : Atom) (s : Sides) (xs : List ℤ) (h : Hull) (x y : ℤ) → AreEndsOf s xs h → IsSmall x → IsSmall y →
+    IsEndsOf s (word_ends w xs x y) (span_in (Leaf w) h x y)
+word_packs C s xs h x y are small next = are NameC
+word_packs E s xs h x y are small next = are NameE
+word_packs D s xs h x y are small next = are NameD
+word_packs F s xs h x y are small next = are NameF
+word_packs R s xs h x y are small next = are NameR
+word_packs This s xs h x y are small next = number_ends_of s x (small_number x small)
+word_packs Next s xs h x y are small next = number_ends_of s y (small_number y next)
+word_packs Zero s xs h x y are small next = number_ends_of s (pos 0) zero_is_small
+word_packs UnitAtom s xs h x y are small next = number_ends_of s (pos 1) one_is_small
+word_packs LowAtom s xs h x y are small next = low_ends s
+word_packs HighAtom s xs h x y are small next = high_ends s
 
-pub tree_packs : (f : Formula) (n : ℕ) (xs : List ℤ) (x y : ℤ) → 6 ≤ n → AreSome n xs → IsSmall x → IsSmall y →
-    IsPackOf (tree_value f xs x y) (span_in f (unpacked xs) x y)
-tree_packs (Leaf w) n xs x y big h small next = word_packs w n xs x y big h small next
-tree_packs (Join o f g) n xs x y big h small next =
-    joined_packs o _ _ _ _ (tree_packs f n xs x y big h small next) (tree_packs g n xs x y big h small next)
+pub tree_packs : (f : Formula) (s : Sides) (xs : List ℤ) (h : Hull) (x y : ℤ) → AreEndsOf s xs h → IsFor s f →
+    IsSmall x →
+    IsSmall y →
+    IsEndsOf s (tree_value f xs x y) (span_in f h x y)
+tree_packs (Leaf w) s xs h x y are suits small next = word_packs w s xs h x y are small next
+tree_packs (Join (Fold o) f g) s xs h x y are suits small next =
+    let parts = for_parts s o f g suits in
+    any_packs o s _ _ _ _ (tree_packs f s xs h x y are parts.0 small next)
+    (tree_packs g s xs h x y are parts.1 small next)
+tree_packs (Join Sub f g) BothEnds xs h x y are suits small next =
+    both_joined Sub _ _ _ _ (tree_packs f BothEnds xs h x y are tt small next)
+    (tree_packs g BothEnds xs h x y are tt small next)
+tree_packs (Join Sub f g) UpperEnds xs h x y are suits small next = cc
+tree_packs (Join Sub f g) LowerEnds xs h x y are suits small next = cc
 
 -- at no next cell, as it were
 pub zero_small : IsSmall (pos 0)

@@ -7,9 +7,10 @@ ghost use Rattle.ts_hull.specs.Splits.{is_double, is_front, is_next, operands, s
 ghost use Rattle.ts_sweep.specs.AnyParts.{split_by};
 ghost use Rattle.ts_sweep.specs.Small.{IsSmall};
 
+use crate::cover::Cover;
 use crate::packed::{Ends, Packed, number};
 use crate::part::Part;
-use crate::tree::{folded_ends, tree_ends};
+use crate::tree::{folded_ends, is_narrow, tree_ends};
 use ts_automaton::{Expr, Op};
 
 /// An expression that doesn't read the next cell; an operator over one that doesn't and the next cell; or an operator
@@ -161,11 +162,13 @@ impl<'a> Part for AnyPart<'a> {
 
     ghost closable_front = { λ k xs x h small. tt };
 
-    ghost front_packs = { λ k n xs x big some h small. part_packs k n xs x big some small };
+    ghost closable_read = { λ k s e p. tt };
+
+    ghost front_packs = { λ k s xs h x are suits fits small. part_packs k s xs h x are suits small };
 
     ghost no_tail = { λ k t s y. part_no_tail k s y t };
 
-    ghost closing_packs = { λ k e s y p h small. part_closed_packs k e s y p small };
+    ghost closing_packs = { λ k s e t y p h small. part_closed_packs k s e t y p small };
 
     #[inline(always)]
     fn has_tail(self) -> bool {
@@ -176,7 +179,15 @@ impl<'a> Part for AnyPart<'a> {
     }
 
     #[inline(always)]
-    fn is_fit<H: Packed>(self, _cover: H) -> bool {
+    fn is_narrow(self) -> bool {
+        match self {
+            AnyPart::Front(e) | AnyPart::Tail(_, e) => is_narrow(e),
+            AnyPart::Double(_, e, f) => is_narrow(e) && is_narrow(f),
+        }
+    }
+
+    #[inline(always)]
+    fn is_fit(self, _cover: &Cover) -> bool {
         true
     }
 

@@ -1,22 +1,160 @@
-//! The cover of a column: the join of its hulls, which tells whether any is reached and how great their numbers are.
+//! The cover of a column: between which numbers its hulls lie, which tells whether sums stay small, and whether any of
+//! them is reached.
 
-ghost use Rattle.std.specs.Prelude.{◌≡◌, true, length, get_or};
-ghost use Rattle.ts_sweep.specs.Sweeps.{total};
+ghost use Rattle.std.specs.Prelude.{◌≡◌, ◌<◌, ◌≤◌, ℕ, ℤ, List, get_or, length, true};
+ghost use Rattle.ts_sweep.specs.Covers.{
+  IsBounded,
+  IsCoverOf,
+  bound_ends,
+  cover_ends,
+  join_of,
+  join_of_all,
+  nothing_of,
+  turned,
+  turned_hull,
+};
+ghost use Rattle.ts_sweep.specs.Lanes.{some_lanes};
+ghost use Rattle.ts_sweep.specs.Packed.{IsPacked, ends_in, place};
+ghost use Rattle.ts_sweep.specs.Sides.{BothEnds, as_read, lane_count, lanes_in, sides};
 
 use crate::column::Column;
 use crate::hull::Hull;
+use crate::packed::{Ends, LOWER, Name, Packed, PackedHull, UPPER};
 
-/// The join of the hulls of a state.
+/// The ends of each register that no hull of a column goes beyond, and whether registers lie in any of them.
+#[derive(Clone, Copy)]
+pub struct Cover {
+    pub some: bool,
+    pub c: Ends,
+    pub e: Ends,
+    pub d: Ends,
+    pub f: Ends,
+    pub r: Ends,
+}
+
+impl Cover {
+    /// A cover that bounds no number.
+    #[inline(always)]
+    pub(crate) fn greatest() -> Cover
+        ensures { (xs : List ℤ) → IsBounded result xs }
+    {
+        let e = Ends {
+            below: i64::MAX,
+            above: i64::MAX,
+        };
+        Cover {
+            some: true,
+            c: e,
+            e,
+            d: e,
+            f: e,
+            r: e,
+        }
+    }
+
+    /// The ends of a register.
+    #[inline(always)]
+    pub(crate) fn ends(&self, register: Name) -> Ends
+        ensures { result ≡ cover_ends self.now register }
+    {
+        match register {
+            Name::C => self.c,
+            Name::E => self.e,
+            Name::D => self.d,
+            Name::F => self.f,
+            Name::R => self.r,
+        }
+    }
+}
+
+/// A lane negated; nothing stays nothing.
+#[inline(always)]
+fn turned_lane(x: i64) -> i64
+    ensures { result ≡ turned x }
+{
+    if x == i64::MIN { x } else { -x }
+}
+
+/// A hull with each lane negated.
+#[inline(always)]
+fn turned<const N: usize>(h: &PackedHull<N>) -> PackedHull<N>
+    ensures { result ≡ turned_hull N h.now }
+{
+    let mut at = h.at;
+    for k in 0..N {
+        at[k] = turned_lane(at[k]);
+    }
+    PackedHull { at }
+}
+
+/// A hull, joined with another one whose lanes are negated, where that has one end alone.
+#[inline(always)]
+fn with_turned<const N: usize>(all: PackedHull<N>, h: &PackedHull<N>) -> PackedHull<N>
+    ensures { (sides N ≡ BothEnds → ⊥) → result ≡ join_of N all.entry (turned_hull N h.now) }
+{
+    if N == UPPER || N == LOWER {
+        all.joined(turned(h))
+    } else {
+        all
+    }
+}
+
+/// The ends of a register in a cover.
+#[inline(always)]
+fn bound<const N: usize>(all: &PackedHull<N>, turned: &PackedHull<N>, register: Name) -> Ends
+    requires registers { 6 ≤ lane_count N }
+    ensures { result ≡ bound_ends (sides N)
+        (ends_in (as_read (sides N) (lanes_in N all.now.at)) (place (lane_count N) register))
+        (ends_in (as_read (sides N) (lanes_in N turned.now.at)) (place (lane_count N) register)) }
+{
+    let e = all.ends(register);
+    let t = turned.ends(register);
+    if N == UPPER {
+        Ends {
+            below: t.above,
+            above: e.above,
+        }
+    } else if N == LOWER {
+        Ends {
+            below: e.below,
+            above: t.below,
+        }
+    } else {
+        e
+    }
+}
+
+/// The cover of the hulls of a state.
 #[inline(never)]
-pub fn cover<H: Hull, C: Column<H>>(from: C, row: &[C::Item], count: usize) -> H
+pub fn cover_of<const N: usize, C: Column<PackedHull<N>>>(
+    from: C,
+    row: &[C::Item],
+    count: usize,
+) -> Cover
+    requires registers { 6 ≤ lane_count N }
+    requires lanes { N ≤ 64 }
     requires whole { C.whole from row.now }
     requires readable { C.readable from row.now }
     requires same { length (C.column from row.now) ≡ count }
-    ensures { result ≡ total H.both H.none (λ i. true) (λ i. get_or (C.hulls from row.now) i H.none) count }
+    ensures some { result.some ≡ some_lanes
+        (lanes_in N (join_of_all N (λ i. get_or (C.hulls from row.now) i (nothing_of N)) count).at) }
+    ensures bounds { ((i : ℕ) → i < count →
+        IsPacked (lane_count N) (lanes_in N (get_or (C.hulls from row.now) i (nothing_of N)).at)) →
+        IsCoverOf (sides N) (λ h. lanes_in N h.at) (nothing_of N) result count (C.hulls from row.now) }
 {
-    let mut all = H::nothing();
+    let mut all = PackedHull::<N>::nothing();
+    let mut turned = PackedHull::<N>::nothing();
     for i in 0..count {
-        all = all.joined(from.hull(row, i));
+        let h = from.hull(row, i);
+        turned = with_turned(turned, &h);
+        all = all.joined(h);
     }
-    all
+    Cover {
+        some: all.is_some(),
+        c: bound(&all, &turned, Name::C),
+        e: bound(&all, &turned, Name::E),
+        d: bound(&all, &turned, Name::D),
+        f: bound(&all, &turned, Name::F),
+        r: bound(&all, &turned, Name::R),
+    }
 }

@@ -3,20 +3,26 @@
 //! of it is compiled with nothing left to decide.
 
 ghost use Rattle.std.specs.Prelude.{◌≡◌, ℤ, List, ◌≤◌, true, false};
+ghost use Rattle.ts_sweep.specs.Covers.{IsBounded};
 ghost use Rattle.ts_sweep.specs.Fronts.{ArePlain, name_of};
-ghost use Rattle.ts_sweep.specs.Packed.{AreSome, AreWithin, IsUnder, name_ends};
+ghost use Rattle.ts_sweep.specs.Sides.{as_read};
 ghost use Rattle.ts_sweep.specs.Small.{IsSmall};
 
+use crate::cover::Cover;
 use crate::operator::Operator;
 use crate::packed::{Ends, Name, Packed};
 
 /// An expression that doesn't read the next cell.
 pub trait Front: Copy {
     ghost use Rattle.std.specs.Prelude.{◌≡◌, ℕ, ◌≤◌, Bool, true, false, ℤ, pos, List};
-    ghost use Rattle.ts_automaton.specs.Formula.{Formula};
+    ghost use Rattle.ts_automaton.specs.Formula.{Formula, is_narrow};
     ghost use Rattle.ts_hull.specs.Sealed.{span_in};
     ghost use Rattle.ts_sweep.specs.declared.packed.Ends.{Ends};
-    ghost use Rattle.ts_sweep.specs.Packed.{AreSome, AreWithin, IsPackOf, IsUnder, unpacked};
+    ghost use Rattle.ts_automaton.specs.declared.regs.Hull.{Hull};
+    ghost use Rattle.ts_sweep.specs.Covers.{IsBounded};
+    ghost use Rattle.ts_sweep.specs.Fronts.{AreEndsOf, IsFor};
+    ghost use Rattle.ts_sweep.specs.Packed.{AreWithin};
+    ghost use Rattle.ts_sweep.specs.Sides.{IsEndsOf, Sides, as_read};
     ghost use Rattle.ts_sweep.specs.Small.{IsSmall};
 
     /// The expression.
@@ -36,25 +42,28 @@ pub trait Front: Copy {
     fn words(self) -> u8
         ensures { result ≡ words self };
 
-    /// Whether the expression may be evaluated on all lanes under a cover.
-    fn is_fit<H: Packed>(self, added: bool, cover: H) -> bool
-        requires registers { 6 ≤ H.count }
-        ensures { result ≡ true → (xs : List ℤ) → AreSome H.count xs → IsUnder xs (H.lanes cover) → fit self added xs };
+    /// Whether neither E nor F nor a difference stands in the expression.
+    fn is_narrow(self) -> bool
+        ensures { result ≡ is_narrow (formula self) };
+
+    /// Whether the expression may be evaluated on all lanes that a cover bounds.
+    fn is_fit(self, added: bool, cover: &Cover) -> bool
+        ensures { result ≡ true → (xs : List ℤ) → IsBounded cover.now xs → fit self added xs };
 
     /// The ends of the expression on a hull, at a value.
     fn ends<H: Packed>(self, h: H, x: i64) -> Ends
         requires registers { 6 ≤ H.count }
-        requires fit { fit self false (H.lanes h) }
+        requires fit { fit self false (as_read H.sides (H.lanes h)) }
         requires small { IsSmall x }
-        ensures { result ≡ value self (H.lanes h) x };
+        ensures { result ≡ value self (as_read H.sides (H.lanes h)) x };
 
     ghost looser: { (k : Self) (xs : List ℤ) → fit k true xs → fit k false xs };
 
     ghost within: { (k : Self) (xs : List ℤ) (x : ℤ) → words k ≤ 9 → fit k true xs → IsSmall x →
         AreWithin (words k) (value k xs x) };
 
-    ghost packs: { (k : Self) (n : ℕ) (xs : List ℤ) (x : ℤ) → 6 ≤ n → AreSome n xs → fit k false xs → IsSmall x →
-        IsPackOf (value k xs x) (span_in (formula k) (unpacked xs) x (pos 0)) };
+    ghost packs: { (k : Self) (s : Sides) (xs : List ℤ) (h : Hull) (x : ℤ) → AreEndsOf s xs h → IsFor s (formula k) →
+        fit k false xs → IsSmall x → IsEndsOf s (value k xs x) (span_in (formula k) h x (pos 0)) };
 }
 
 /// A register by its number: C, E, D, F and R are 0 to 4.
@@ -126,7 +135,7 @@ impl<const K: usize> Front for Register<K> {
 
     ghost within = { λ k xs x few h small. register_within (name_of K) xs h };
 
-    ghost packs = { λ k n xs x big some h small. register_packs n (name_of K) xs x (pos 0) big some };
+    ghost packs = { λ k s xs h x are suits fits small. register_packs s (name_of K) xs h x (pos 0) are };
 
     #[inline(always)]
     fn words(self) -> u8 {
@@ -134,8 +143,13 @@ impl<const K: usize> Front for Register<K> {
     }
 
     #[inline(always)]
-    fn is_fit<H: Packed>(self, added: bool, cover: H) -> bool {
-        !added || is_small_under(cover, name_of(K))
+    fn is_narrow(self) -> bool {
+        K != 1 && K != 3
+    }
+
+    #[inline(always)]
+    fn is_fit(self, added: bool, cover: &Cover) -> bool {
+        !added || are_plain(cover.ends(name_of(K)))
     }
 
     #[inline(always)]
@@ -152,22 +166,12 @@ fn are_plain(e: Ends) -> bool
     e.below <= 10_000_000_000_000_000 && e.above <= 10_000_000_000_000_000
 }
 
-/// Whether a register is a small number in all lanes under a cover.
-#[inline(always)]
-fn is_small_under<H: Packed>(cover: H, register: Name) -> bool
-    requires registers { 6 ≤ H.count }
-    ensures { result ≡ true → (xs : List ℤ) → AreSome H.count xs → IsUnder xs (H.lanes cover) →
-        AreWithin 1 (name_ends xs register) }
-{
-    are_plain(cover.ends(register))
-}
-
 impl Front for This {
     ghost use Rattle.std.specs.Prelude.{neg_ℤ};
     ghost use Rattle.ts_automaton.specs.Formula.{Leaf};
     ghost use Rattle.ts_automaton.specs.declared.expr.Atom.TheVariants.{This as ThisWord};
     ghost use Rattle.ts_sweep.specs.Packed.{ends};
-    ghost use Rattle.ts_sweep.specs.FrontLaws.{small_number, number_packs, number_within};
+    ghost use Rattle.ts_sweep.specs.FrontLaws.{small_number, number_ends_of, number_within};
 
     ghost formula = { λ k. Leaf ThisWord };
 
@@ -181,7 +185,7 @@ impl Front for This {
 
     ghost within = { λ k xs x few h small. number_within x (small_number x small) };
 
-    ghost packs = { λ k n xs x big some h small. number_packs x (small_number x small) };
+    ghost packs = { λ k s xs h x are suits fits small. number_ends_of s x (small_number x small) };
 
     #[inline(always)]
     fn words(self) -> u8 {
@@ -189,7 +193,12 @@ impl Front for This {
     }
 
     #[inline(always)]
-    fn is_fit<H: Packed>(self, _added: bool, _cover: H) -> bool {
+    fn is_narrow(self) -> bool {
+        true
+    }
+
+    #[inline(always)]
+    fn is_fit(self, _added: bool, _cover: &Cover) -> bool {
         true
     }
 
@@ -207,7 +216,7 @@ impl Front for One {
     ghost use Rattle.ts_automaton.specs.Formula.{Leaf};
     ghost use Rattle.ts_automaton.specs.declared.expr.Atom.TheVariants.{Unit as UnitWord};
     ghost use Rattle.ts_sweep.specs.Packed.{ends};
-    ghost use Rattle.ts_sweep.specs.FrontLaws.{one_is_small, number_packs, number_within};
+    ghost use Rattle.ts_sweep.specs.FrontLaws.{one_is_small, number_ends_of, number_within};
 
     ghost formula = { λ k. Leaf UnitWord };
 
@@ -221,7 +230,7 @@ impl Front for One {
 
     ghost within = { λ k xs x few h small. number_within (pos 1) one_is_small };
 
-    ghost packs = { λ k n xs x big some h small. number_packs (pos 1) one_is_small };
+    ghost packs = { λ k s xs h x are suits fits small. number_ends_of s (pos 1) one_is_small };
 
     #[inline(always)]
     fn words(self) -> u8 {
@@ -229,7 +238,12 @@ impl Front for One {
     }
 
     #[inline(always)]
-    fn is_fit<H: Packed>(self, _added: bool, _cover: H) -> bool {
+    fn is_narrow(self) -> bool {
+        true
+    }
+
+    #[inline(always)]
+    fn is_fit(self, _added: bool, _cover: &Cover) -> bool {
         true
     }
 
@@ -247,7 +261,7 @@ impl Front for Zero {
     ghost use Rattle.ts_automaton.specs.Formula.{Leaf};
     ghost use Rattle.ts_automaton.specs.declared.expr.Atom.TheVariants.{Zero as ZeroWord};
     ghost use Rattle.ts_sweep.specs.Packed.{ends};
-    ghost use Rattle.ts_sweep.specs.FrontLaws.{zero_is_small, number_packs, number_within};
+    ghost use Rattle.ts_sweep.specs.FrontLaws.{zero_is_small, number_ends_of, number_within};
 
     ghost formula = { λ k. Leaf ZeroWord };
 
@@ -261,7 +275,7 @@ impl Front for Zero {
 
     ghost within = { λ k xs x few h small. number_within (pos 0) zero_is_small };
 
-    ghost packs = { λ k n xs x big some h small. number_packs (pos 0) zero_is_small };
+    ghost packs = { λ k s xs h x are suits fits small. number_ends_of s (pos 0) zero_is_small };
 
     #[inline(always)]
     fn words(self) -> u8 {
@@ -269,7 +283,12 @@ impl Front for Zero {
     }
 
     #[inline(always)]
-    fn is_fit<H: Packed>(self, _added: bool, _cover: H) -> bool {
+    fn is_narrow(self) -> bool {
+        true
+    }
+
+    #[inline(always)]
+    fn is_fit(self, _added: bool, _cover: &Cover) -> bool {
         true
     }
 
@@ -285,7 +304,7 @@ impl Front for Low {
     ghost use Rattle.ts_automaton.specs.Formula.{Leaf};
     ghost use Rattle.ts_automaton.specs.declared.expr.Atom.TheVariants.{NegInf as LowWord};
     ghost use Rattle.ts_sweep.specs.Packed.{ends};
-    ghost use Rattle.ts_sweep.specs.FrontLaws.{never_added, low_packs};
+    ghost use Rattle.ts_sweep.specs.FrontLaws.{never_added, low_ends};
 
     ghost formula = { λ k. Leaf LowWord };
 
@@ -299,7 +318,7 @@ impl Front for Low {
 
     ghost within = { λ k xs x few h small. never_added h };
 
-    ghost packs = { λ k n xs x big some h small. low_packs };
+    ghost packs = { λ k s xs h x are suits fits small. low_ends s };
 
     #[inline(always)]
     fn words(self) -> u8 {
@@ -307,7 +326,12 @@ impl Front for Low {
     }
 
     #[inline(always)]
-    fn is_fit<H: Packed>(self, added: bool, _cover: H) -> bool {
+    fn is_narrow(self) -> bool {
+        true
+    }
+
+    #[inline(always)]
+    fn is_fit(self, added: bool, _cover: &Cover) -> bool {
         !added
     }
 
@@ -326,7 +350,7 @@ impl Front for High {
     ghost use Rattle.ts_automaton.specs.Formula.{Leaf};
     ghost use Rattle.ts_automaton.specs.declared.expr.Atom.TheVariants.{PosInf as HighWord};
     ghost use Rattle.ts_sweep.specs.Packed.{ends};
-    ghost use Rattle.ts_sweep.specs.FrontLaws.{never_added, high_packs};
+    ghost use Rattle.ts_sweep.specs.FrontLaws.{never_added, high_ends};
 
     ghost formula = { λ k. Leaf HighWord };
 
@@ -340,7 +364,7 @@ impl Front for High {
 
     ghost within = { λ k xs x few h small. never_added h };
 
-    ghost packs = { λ k n xs x big some h small. high_packs };
+    ghost packs = { λ k s xs h x are suits fits small. high_ends s };
 
     #[inline(always)]
     fn words(self) -> u8 {
@@ -348,7 +372,12 @@ impl Front for High {
     }
 
     #[inline(always)]
-    fn is_fit<H: Packed>(self, added: bool, _cover: H) -> bool {
+    fn is_narrow(self) -> bool {
+        true
+    }
+
+    #[inline(always)]
+    fn is_fit(self, added: bool, _cover: &Cover) -> bool {
         !added
     }
 
@@ -382,13 +411,12 @@ impl<O: Operator, A: Front, B: Front> Front for Join<O, A, B> {
         (λ b. A.fit k.left b xs) (λ b. B.fit k.right b xs) (A.value k.left xs x) (B.value k.right xs x) (O.within k.by)
         (λ le g. A.within k.left xs x le g small) (λ le g. B.within k.right xs x le g small) h };
 
-    ghost packs = { λ k n xs x big some h small. join_packs (O.adds k.by) (O.joined k.by) (O.op k.by) (A.words k.left)
-        (B.words k.right)
-        (λ b. A.fit k.left b xs) (λ b. B.fit k.right b xs) (A.value k.left xs x) (B.value k.right xs x) _ _
-        (O.packs k.by)
-        (A.looser k.left xs) (B.looser k.right xs) (λ le g. A.within k.left xs x le g small)
-        (λ le g. B.within k.right xs x le g small)
-        (λ g. A.packs k.left n xs x big some g small) (λ g. B.packs k.right n xs x big some g small) h };
+    ghost packs = { λ k s xs h x are suits fits small. join_packs s (O.adds k.by) (O.joined k.by) (O.op k.by)
+        (A.words k.left) (B.words k.right) (λ b. A.fit k.left b xs) (λ b. B.fit k.right b xs)
+        (A.value k.left xs x) (B.value k.right xs x) (A.formula k.left) (B.formula k.right) _ _
+        (O.packs k.by) (A.looser k.left xs) (B.looser k.right xs) (λ le g. A.within k.left xs x le g small)
+        (λ le g. B.within k.right xs x le g small) (λ suits g. A.packs k.left s xs h x are suits g small)
+        (λ suits g. B.packs k.right s xs h x are suits g small) suits fits };
 
     #[inline(always)]
     fn words(self) -> u8 {
@@ -396,7 +424,12 @@ impl<O: Operator, A: Front, B: Front> Front for Join<O, A, B> {
     }
 
     #[inline(always)]
-    fn is_fit<H: Packed>(self, added: bool, cover: H) -> bool {
+    fn is_narrow(self) -> bool {
+        !self.by.is_difference() && self.left.is_narrow() && self.right.is_narrow()
+    }
+
+    #[inline(always)]
+    fn is_fit(self, added: bool, cover: &Cover) -> bool {
         let added = added || self.by.is_sum();
         self.left.words() as u16 + self.right.words() as u16 <= 9
             && self.left.is_fit(added, cover)

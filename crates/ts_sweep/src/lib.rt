@@ -19,7 +19,7 @@
 //! - `Parts` of a `Front` for each register, with words (`One`, `This`, `Zero` ..) and operators as types; `Tree` and
 //! `AnyPart` are what is known only when the program runs;
 //! - `Hull`: what is joined; `PackedHull` is two numbers a register, six lanes for a narrow hull and ten for a wide
-//! one;
+//! one, or one number a register, where one end alone is wanted;
 //! - `Column`: where the hulls of a state are, `Dense` in a column of their own or `Strided` in a row of plain hulls.
 //!
 //! A move `take`n in is exactly the join over all pairs of values that the letter names.

@@ -1,10 +1,15 @@
 //! Moves as sweeps take them in: what becomes of each register, or that all are kept.
 
-ghost use Rattle.std.specs.Prelude.{◌≡◌, ℤ, ◌≤◌, ◌||◌, true};
-ghost use Rattle.ts_sweep.specs.Moves.{beside};
-ghost use Rattle.ts_sweep.specs.Packed.{IsPacked, IsUnder, ends_in, is_wide, place};
+ghost use Rattle.std.specs.Prelude.{◌≡◌, ℤ, ◌≤◌, ◌||◌, List, true};
+ghost use Rattle.ts_sweep.specs.declared.packed.Name.{Name};
+ghost use Rattle.ts_sweep.specs.Covers.{IsBounded, IsHullBounded};
+ghost use Rattle.ts_sweep.specs.Fronts.{IsSplitFor};
+ghost use Rattle.ts_sweep.specs.Moves.{beside, fits_by};
+ghost use Rattle.ts_sweep.specs.Packed.{IsPacked, ends_in, is_wide, place};
+ghost use Rattle.ts_sweep.specs.Sides.{Sides, as_read};
 ghost use Rattle.ts_sweep.specs.Small.{IsSmall};
 
+use crate::cover::Cover;
 use crate::packed::{Ends, Name, Packed};
 use crate::part::Part;
 use crate::source::Fronts;
@@ -19,17 +24,17 @@ pub trait Moves<H: Packed>: Fronts<H> {
     /// The split expressions of the move.
     ghost cut: { Self → Cut };
 
-    /// Whether the sums of the move stay small on all hulls under a cover.
-    fn is_fit(self, cover: H) -> bool
+    /// Whether the sums of the move stay small on all hulls that a cover bounds.
+    fn is_fit(self, cover: &Cover) -> bool
         requires registers { 6 ≤ H.count }
-        ensures { result ≡ true → (h : H) → IsPacked H.count (H.lanes h) → IsUnder (H.lanes h) (H.lanes cover) →
-            Self.fit self h };
+        ensures { result ≡ true → (h : H) → IsPacked H.count (H.lanes h) →
+            IsHullBounded H.sides cover.now (H.lanes h) → Self.fit self h };
 
     ghost front_is: { (k : Self) (h : H) (v : ℤ) → 6 ≤ H.count → Self.fit k h → IsSmall v →
-        IsFrontOf (cut k) H.count (H.lanes h) v (H.lanes (Self.front k h v)) };
+        IsFrontOf H.sides (cut k) H.count (H.lanes h) v (H.lanes (Self.front k h v)) };
 
     ghost closing_is: { (k : Self) (run : H) (w : ℤ) → 6 ≤ H.count → Self.closable k run → IsSmall w →
-        IsClosingOf (cut k) H.count (H.lanes run) w (H.lanes (Self.closing k run w)) };
+        IsClosingOf H.sides (cut k) H.count (H.lanes run) w (H.lanes (Self.closing k run w)) };
 }
 
 /// Keeps all registers.
@@ -61,13 +66,47 @@ pub(crate) fn has_tail<C: Part, E: Part, D: Part, F: Part, R: Part>(
         || parts.r.has_tail()
 }
 
+/// Whether three parts may be evaluated on one end alone.
+#[inline(always)]
+fn are_narrow<C: Part, D: Part, R: Part>(c: C, d: D, r: R) -> bool
+    ensures { result ≡ true → (s : Sides) →
+        IsSplitFor s (C.split c) × IsSplitFor s (D.split d) × IsSplitFor s (R.split r) }
+{
+    c.is_narrow() & d.is_narrow() & r.is_narrow()
+}
+
+/// Whether three parts may be evaluated on the ends that hulls have.
+#[inline(always)]
+fn are_for<H: Packed, C: Part, D: Part, R: Part>(c: C, d: D, r: R) -> bool
+    ensures { result ≡ true →
+        IsSplitFor H.sides (C.split c) × IsSplitFor H.sides (D.split d) × IsSplitFor H.sides (R.split r) }
+{
+    H::has_both() || are_narrow(c, d, r)
+}
+
+/// Whether all parts may be evaluated and closed on all lanes that a cover bounds.
+#[inline(always)]
+fn are_fit<C: Part, E: Part, D: Part, F: Part, R: Part>(
+    parts: Parts<C, E, D, F, R>,
+    cover: &Cover,
+) -> bool
+    ensures { result ≡ true → (xs : List ℤ) → IsBounded cover.now xs → (k : Name) →
+        fits_by (C.fit parts.c) (E.fit parts.e) (D.fit parts.d) (F.fit parts.f) (R.fit parts.r) k xs }
+{
+    parts.c.is_fit(cover)
+        & parts.e.is_fit(cover)
+        & parts.d.is_fit(cover)
+        & parts.f.is_fit(cover)
+        & parts.r.is_fit(cover)
+}
+
 /// The front of E or F; in a narrow hull, which has no lanes for them, it is 0.
 #[inline(always)]
 fn begun_beside<H: Packed, P: Part>(part: P, h: H, x: i64) -> Ends
     requires registers { 6 ≤ H.count }
-    requires fit { is_wide H.count ≡ true → P.fit part (H.lanes h) }
+    requires fit { is_wide H.count ≡ true → P.fit part (as_read H.sides (H.lanes h)) }
     requires small { IsSmall x }
-    ensures { result ≡ beside (is_wide H.count) (P.front part (H.lanes h) x) }
+    ensures { result ≡ beside (is_wide H.count) (P.front part (as_read H.sides (H.lanes h)) x) }
 {
     if H::is_wide() {
         part.begun(h, x)
@@ -80,9 +119,11 @@ fn begun_beside<H: Packed, P: Part>(part: P, h: H, x: i64) -> Ends
 #[inline(always)]
 fn closed_beside<H: Packed, P: Part>(part: P, run: H, register: Name, y: i64) -> Ends
     requires registers { 6 ≤ H.count }
-    requires closable { is_wide H.count ≡ true → P.closable part (ends_in (H.lanes run) (place H.count register)) }
+    requires closable { is_wide H.count ≡ true →
+        P.closable part (ends_in (as_read H.sides (H.lanes run)) (place H.count register)) }
     requires small { IsSmall y }
-    ensures { result ≡ beside (is_wide H.count) (P.closing part (ends_in (H.lanes run) (place H.count register)) y) }
+    ensures { result ≡ beside (is_wide H.count)
+        (P.closing part (ends_in (as_read H.sides (H.lanes run)) (place H.count register)) y) }
 {
     if H::is_wide() {
         part.closed(run.ends(register), y)
@@ -130,12 +171,13 @@ impl<H: Packed> Moves<H> for Keep {
 
     ghost cut = { λ k. kept_cut (is_wide H.count) };
 
-    ghost front_is = { λ k h v big p small. kept_front H.count (H.lanes h) v big p };
+    ghost front_is = { λ k h v big p small. kept_front H.sides H.count (H.lanes h) v big (H.shown h big p) p };
 
-    ghost closing_is = { λ k run w big p small. kept_closing H.count (H.lanes run) w big p };
+    ghost closing_is = { λ k run w big p small. kept_closing H.sides H.count (H.lanes run) w big
+        (H.shown run big p) p };
 
     #[inline(always)]
-    fn is_fit(self, _cover: H) -> bool {
+    fn is_fit(self, _cover: &Cover) -> bool {
         true
     }
 }
@@ -145,29 +187,33 @@ impl<H: Packed, C: Part, E: Part, D: Part, F: Part, R: Part> Fronts<H> for Parts
     ghost use Rattle.std.proofs.Common.{inl};
     ghost use Rattle.ts_automaton.specs.Registers.{each};
     ghost use Rattle.ts_sweep.specs.declared.packed.Name.TheVariants.{C as NameC, E as NameE, D as NameD, F as NameF, R as NameR};
+    ghost use Rattle.ts_sweep.specs.Fronts.{IsCutFor};
     ghost use Rattle.ts_sweep.specs.Lanes.{some_lanes};
     ghost use Rattle.ts_sweep.specs.Packed.{ends_in, is_wide, place};
+    ghost use Rattle.ts_sweep.specs.Sides.{as_read};
     ghost use Rattle.ts_sweep.specs.Moves.{IsFitFor, IsClosableBy, closes_by, ends_by, fits_by, fronts_by, replaced_all};
     ghost use Rattle.ts_sweep.specs.MoveLaws.{by_names, parts_none, parts_both, parts_front};
 
-    ghost fit = { λ k h. IsFitFor H.count (fits_by (C.fit k.c) (E.fit k.e) (D.fit k.d) (F.fit k.f) (R.fit k.r))
-        (H.lanes h) };
+    ghost fit = { λ k h. IsFitFor H.sides H.count
+        (fits_by (C.fit k.c) (E.fit k.e) (D.fit k.d) (F.fit k.f) (R.fit k.r)) (H.lanes h)
+        × IsCutFor H.sides (each (C.split k.c) (E.split k.e) (D.split k.d) (F.split k.f) (R.split k.r)) };
 
-    ghost closable = { λ k h. IsClosableBy H.count
+    ghost closable = { λ k h. IsClosableBy H.sides H.count
         (closes_by (C.closable k.c) (E.closable k.e) (D.closable k.d) (F.closable k.f) (R.closable k.r)) (H.lanes h) };
 
     ghost front = { λ k h v. cond (some_lanes (H.lanes h))
-        (replaced_all H.replaced h (ends_by (is_wide H.count) (C.front k.c (H.lanes h) v) (E.front k.e (H.lanes h) v)
-        (D.front k.d (H.lanes h) v) (F.front k.f (H.lanes h) v) (R.front k.r (H.lanes h) v))) H.none };
+        (replaced_all H.replaced h (ends_by (is_wide H.count) (C.front k.c (as_read H.sides (H.lanes h)) v)
+        (E.front k.e (as_read H.sides (H.lanes h)) v) (D.front k.d (as_read H.sides (H.lanes h)) v)
+        (F.front k.f (as_read H.sides (H.lanes h)) v) (R.front k.r (as_read H.sides (H.lanes h)) v))) H.none };
 
     ghost closing = { λ k h w. cond (C.tails k.c || (E.tails k.e || (D.tails k.d || (F.tails k.f || R.tails k.r))))
         (cond (some_lanes (H.lanes h))
         (replaced_all H.replaced h (ends_by (is_wide H.count)
-        (C.closing k.c (ends_in (H.lanes h) (place H.count NameC)) w)
-        (E.closing k.e (ends_in (H.lanes h) (place H.count NameE)) w)
-        (D.closing k.d (ends_in (H.lanes h) (place H.count NameD)) w)
-        (F.closing k.f (ends_in (H.lanes h) (place H.count NameF)) w)
-        (R.closing k.r (ends_in (H.lanes h) (place H.count NameR)) w)))
+        (C.closing k.c (ends_in (as_read H.sides (H.lanes h)) (place H.count NameC)) w)
+        (E.closing k.e (ends_in (as_read H.sides (H.lanes h)) (place H.count NameE)) w)
+        (D.closing k.d (ends_in (as_read H.sides (H.lanes h)) (place H.count NameD)) w)
+        (F.closing k.f (ends_in (as_read H.sides (H.lanes h)) (place H.count NameF)) w)
+        (R.closing k.r (ends_in (as_read H.sides (H.lanes h)) (place H.count NameR)) w)))
         H.none) h };
 
     ghost closes_none = { λ k w. parts_none H.lanes H.count H.none H.none_lanes
@@ -175,26 +221,29 @@ impl<H: Packed, C: Part, E: Part, D: Part, F: Part, R: Part> Fronts<H> for Parts
 
     ghost closable_none = { λ k. inl H.none_lanes };
 
-    ghost closable_both = { λ k a b p q. parts_both H.both H.lanes H.count H.both_lanes
+    ghost closable_both = { λ k a b p q. parts_both H.both H.lanes H.count H.both_lanes H.sides
         (closes_by (C.closable k.c) (E.closable k.e) (D.closable k.d) (F.closable k.f) (R.closable k.r))
         (by_names _ (C.closable_both k.c) (E.closable_both k.e) (D.closable_both k.d) (F.closable_both k.f)
         (R.closable_both k.r)) a b p q };
 
-    ghost closable_front = { λ k h v p small. parts_front H.lanes H.replaced H.count H.none H.none_lanes
-        H.replaced_lanes
+    ghost closable_front = { λ k h v p small. parts_front H.sides H.lanes H.replaced H.count H.none H.none_lanes
+        H.replaced_lanes H.alone
         (fits_by (C.fit k.c) (E.fit k.e) (D.fit k.d) (F.fit k.f) (R.fit k.r))
         (each (C.split k.c) (E.split k.e) (D.split k.d) (F.split k.f) (R.split k.r))
         (fronts_by (λ xs. C.front k.c xs v) (λ xs. E.front k.e xs v) (λ xs. D.front k.d xs v) (λ xs. F.front k.f xs v)
         (λ xs. R.front k.r xs v)) v
-        (by_names _ (λ xs big some g. C.front_packs k.c H.count xs v big some g small)
-        (λ xs big some g. E.front_packs k.e H.count xs v big some g small)
-        (λ xs big some g. D.front_packs k.d H.count xs v big some g small)
-        (λ xs big some g. F.front_packs k.f H.count xs v big some g small)
-        (λ xs big some g. R.front_packs k.r H.count xs v big some g small))
+        (by_names _ (λ xs i are suits g. C.front_packs k.c H.sides xs i v are suits g small)
+        (λ xs i are suits g. E.front_packs k.e H.sides xs i v are suits g small)
+        (λ xs i are suits g. D.front_packs k.d H.sides xs i v are suits g small)
+        (λ xs i are suits g. F.front_packs k.f H.sides xs i v are suits g small)
+        (λ xs i are suits g. R.front_packs k.r H.sides xs i v are suits g small)) p.1
         (closes_by (C.closable k.c) (E.closable k.e) (D.closable k.d) (F.closable k.f) (R.closable k.r))
         (by_names _ (λ xs g. C.closable_front k.c xs v g small) (λ xs g. E.closable_front k.e xs v g small)
         (λ xs g. D.closable_front k.d xs v g small) (λ xs g. F.closable_front k.f xs v g small)
-        (λ xs g. R.closable_front k.r xs v g small)) h p };
+        (λ xs g. R.closable_front k.r xs v g small))
+        (by_names _ (λ e g. C.closable_read k.c H.sides e g) (λ e g. E.closable_read k.e H.sides e g)
+        (λ e g. D.closable_read k.d H.sides e g) (λ e g. F.closable_read k.f H.sides e g)
+        (λ e g. R.closable_read k.r H.sides e g)) h p.0 };
 
     #[inline(always)]
     fn taken(self, run: H, h: H, value: i64) -> H {
@@ -245,38 +294,36 @@ impl<H: Packed, C: Part, E: Part, D: Part, F: Part, R: Part> Moves<H> for Parts<
     ghost cut = { λ k. of_width (is_wide H.count)
         (each (C.split k.c) (E.split k.e) (D.split k.d) (F.split k.f) (R.split k.r)) };
 
-    ghost front_is = { λ k h v big p small. parts_front_is H.lanes H.replaced H.count H.none H.none_lanes
-        H.replaced_lanes
+    ghost front_is = { λ k h v big p small. parts_front_is H.sides H.lanes H.replaced H.count H.none H.none_lanes
+        H.replaced_lanes H.alone
         (fits_by (C.fit k.c) (E.fit k.e) (D.fit k.d) (F.fit k.f) (R.fit k.r))
         (each (C.split k.c) (E.split k.e) (D.split k.d) (F.split k.f) (R.split k.r))
         (fronts_by (λ xs. C.front k.c xs v) (λ xs. E.front k.e xs v) (λ xs. D.front k.d xs v) (λ xs. F.front k.f xs v)
         (λ xs. R.front k.r xs v)) v
-        (by_names _ (λ xs big some g. C.front_packs k.c H.count xs v big some g small)
-        (λ xs big some g. E.front_packs k.e H.count xs v big some g small)
-        (λ xs big some g. D.front_packs k.d H.count xs v big some g small)
-        (λ xs big some g. F.front_packs k.f H.count xs v big some g small)
-        (λ xs big some g. R.front_packs k.r H.count xs v big some g small)) h big p };
+        (by_names _ (λ xs i are suits g. C.front_packs k.c H.sides xs i v are suits g small)
+        (λ xs i are suits g. E.front_packs k.e H.sides xs i v are suits g small)
+        (λ xs i are suits g. D.front_packs k.d H.sides xs i v are suits g small)
+        (λ xs i are suits g. F.front_packs k.f H.sides xs i v are suits g small)
+        (λ xs i are suits g. R.front_packs k.r H.sides xs i v are suits g small)) p.1 h big p.0 };
 
-    ghost closing_is = { λ k run w big p small. parts_closing_is H.lanes H.replaced H.count H.none H.none_lanes
-        H.replaced_lanes
+    ghost closing_is = { λ k run w big p small. parts_closing_is H.sides H.lanes H.replaced H.count H.none H.none_lanes
+        H.replaced_lanes H.alone H.shown
         (closes_by (C.closable k.c) (E.closable k.e) (D.closable k.d) (F.closable k.f) (R.closable k.r))
         (each (C.split k.c) (E.split k.e) (D.split k.d) (F.split k.f) (R.split k.r))
         (of_name (each (C.tails k.c) (E.tails k.e) (D.tails k.d) (F.tails k.f) (R.tails k.r)))
         (closings_by (λ e. C.closing k.c e w) (λ e. E.closing k.e e w) (λ e. D.closing k.d e w) (λ e. F.closing k.f e w)
         (λ e. R.closing k.r e w)) w
-        (by_names _ (λ e s g h. C.closing_packs k.c e s w g h small) (λ e s g h. E.closing_packs k.e e s w g h small)
-        (λ e s g h. D.closing_packs k.d e s w g h small) (λ e s g h. F.closing_packs k.f e s w g h small)
-        (λ e s g h. R.closing_packs k.r e s w g h small))
+        (by_names _ (λ e t g h. C.closing_packs k.c H.sides e t w g h small)
+        (λ e t g h. E.closing_packs k.e H.sides e t w g h small)
+        (λ e t g h. D.closing_packs k.d H.sides e t w g h small)
+        (λ e t g h. F.closing_packs k.f H.sides e t w g h small)
+        (λ e t g h. R.closing_packs k.r H.sides e t w g h small))
         (by_names _ (λ t s. C.no_tail k.c t s w) (λ t s. E.no_tail k.e t s w) (λ t s. D.no_tail k.d t s w)
         (λ t s. F.no_tail k.f t s w)
         (λ t s. R.no_tail k.r t s w)) run big p };
 
     #[inline(always)]
-    fn is_fit(self, cover: H) -> bool {
-        self.c.is_fit(cover)
-            && self.e.is_fit(cover)
-            && self.d.is_fit(cover)
-            && self.f.is_fit(cover)
-            && self.r.is_fit(cover)
+    fn is_fit(self, cover: &Cover) -> bool {
+        are_for::<H, C, D, R>(self.c, self.d, self.r) && are_fit(self, cover)
     }
 }

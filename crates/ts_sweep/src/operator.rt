@@ -13,7 +13,9 @@ pub trait Operator: Copy {
     ghost use Rattle.ts_automaton.specs.declared.expr.Operator.{Operator};
     ghost use Rattle.ts_hull.specs.Sealed.{sealed_op};
     ghost use Rattle.ts_sweep.specs.declared.packed.Ends.{Ends};
-    ghost use Rattle.ts_sweep.specs.Packed.{AreWithin, IsPackOf};
+    ghost use Rattle.ts_sweep.specs.Fronts.{Serves, is_sub};
+    ghost use Rattle.ts_sweep.specs.Packed.{AreWithin};
+    ghost use Rattle.ts_sweep.specs.Sides.{IsEndsOf, Sides};
 
     /// The operator.
     ghost op: { Self → Operator };
@@ -28,15 +30,19 @@ pub trait Operator: Copy {
     fn is_sum(self) -> bool
         ensures { result ≡ adds self };
 
+    /// Whether it is the difference.
+    fn is_difference(self) -> bool
+        ensures { result ≡ is_sub (op self) };
+
     /// The operator on two ends.
     fn of(self, a: Ends, b: Ends) -> Ends
         requires first { adds self ≡ true → AreWithin 9 a }
         requires second { adds self ≡ true → AreWithin 9 b }
         ensures { result ≡ joined self a b };
 
-    ghost packs: { (k : Self) (i j : ℕ) (a b : Ends) (s t : Span) → i + j ≤ 10 →
+    ghost packs: { (k : Self) (s : Sides) (i j : ℕ) (a b : Ends) (t u : Span) → Serves s (op k) → i + j ≤ 10 →
         (adds k ≡ true → AreWithin i a × AreWithin j b) →
-        IsPackOf a s → IsPackOf b t → IsPackOf (joined k a b) (sealed_op (op k) s t) };
+        IsEndsOf s a t → IsEndsOf s b u → IsEndsOf s (joined k a b) (sealed_op (op k) t u) };
 
     ghost within: { (k : Self) (i j : ℕ) (a b : Ends) → i + j ≤ 10 → AreWithin i a → AreWithin j b →
         AreWithin (i + j) (joined k a b) };
@@ -83,13 +89,18 @@ impl Operator for Plus {
 
     ghost joined = { λ k a b. sum_of_ends a b };
 
-    ghost packs = { λ k i j a b s t few small p q. sum_packs i j a b s t few small p q };
+    ghost packs = { λ k s i j a b t u serves few small p q. sum_packs s i j a b t u few small p q };
 
     ghost within = { λ k i j a b few p q. sum_within i j a b p q };
 
     #[inline(always)]
     fn is_sum(self) -> bool {
         true
+    }
+
+    #[inline(always)]
+    fn is_difference(self) -> bool {
+        false
     }
 
     #[inline(always)]
@@ -133,12 +144,17 @@ impl Operator for Minus {
 
     ghost joined = { λ k a b. sum_of_ends a (crossed b) };
 
-    ghost packs = { λ k i j a b s t few small p q. less_packs i j a b s t few small p q };
+    ghost packs = { λ k s i j a b t u serves few small p q. less_packs s i j a b t u serves few small p q };
 
     ghost within = { λ k i j a b few p q. less_within i j a b p q };
 
     #[inline(always)]
     fn is_sum(self) -> bool {
+        true
+    }
+
+    #[inline(always)]
+    fn is_difference(self) -> bool {
         true
     }
 
@@ -161,12 +177,17 @@ impl Operator for Greater {
 
     ghost joined = { λ k a b. greater_of_ends a b };
 
-    ghost packs = { λ k i j a b s t few small p q. greater_packs a b s t p q };
+    ghost packs = { λ k s i j a b t u serves few small p q. greater_packs s a b t u p q };
 
     ghost within = { λ k i j a b few p q. greater_within i j a b p q };
 
     #[inline(always)]
     fn is_sum(self) -> bool {
+        false
+    }
+
+    #[inline(always)]
+    fn is_difference(self) -> bool {
         false
     }
 
@@ -201,12 +222,17 @@ impl Operator for Lesser {
 
     ghost joined = { λ k a b. lesser_of_ends a b };
 
-    ghost packs = { λ k i j a b s t few small p q. lesser_packs a b s t p q };
+    ghost packs = { λ k s i j a b t u serves few small p q. lesser_packs s a b t u p q };
 
     ghost within = { λ k i j a b few p q. lesser_within i j a b p q };
 
     #[inline(always)]
     fn is_sum(self) -> bool {
+        false
+    }
+
+    #[inline(always)]
+    fn is_difference(self) -> bool {
         false
     }
 

@@ -8,14 +8,17 @@
 //!              -lo   hi   -lo   hi   -lo   hi
 //! ```
 //!
-//! A wide hull has ten lanes, in the order C, E, D, F, R. A narrow one has none for E and F, which hold 0.
+//! A wide hull has ten lanes, in the order C, E, D, F, R. A narrow one has none for E and F, which hold 0. A narrow
+//! hull of one end alone has three lanes, for its upper ends, or four, for its lower ends and one that is idle, since
+//! lanes are joined in pairs. The end that has no lane is taken as infinite.
 //!
 //! The greatest number represents an infinity. The least one in each lane represents a hull of nothing, which changes
 //! no hull that it is joined to.
 
-ghost use Rattle.std.specs.Prelude.{◌≡◌, ◌≤◌, IfSome};
+ghost use Rattle.std.specs.Prelude.{◌≡◌, ◌+◌, ◌*◌, ◌<◌, ◌≤◌, IfSome, Some};
 ghost use Rattle.ts_sweep.specs.Lanes.{greater_of, some_lanes};
 ghost use Rattle.ts_sweep.specs.Packed.{IsPlace, ends_in, is_wide, name_ends, number_ends, place, with_ends_in};
+ghost use Rattle.ts_sweep.specs.Sides.{as_read, has_wide, kept_ends, lane_count, lanes_in, sides, with_kept};
 ghost use Rattle.ts_sweep.specs.Small.{IsSmall};
 
 use crate::hull::Hull;
@@ -37,24 +40,34 @@ pub enum Name {
     R,
 }
 
-/// A hull of N lanes: two for each register.
+/// How many lanes a hull of upper ends alone has: one for each of C, D and R.
+pub const UPPER: usize = 3;
+
+/// How many lanes a hull of lower ends alone has: one is idle.
+pub const LOWER: usize = 4;
+
+/// A hull of N lanes: two for each register, or one in a hull of one end alone.
 #[derive(Clone, Copy, Debug, PartialEq, Eq)]
 pub struct PackedHull<const N: usize> {
     pub at: [i64; N],
 }
 
-/// Hulls of registers, two lanes for each register.
+/// Hulls of registers, two lanes for each register, or one in a hull of one end alone.
 pub trait Packed: Hull {
-    ghost use Rattle.std.specs.Prelude.{ℕ, ℤ, List};
+    ghost use Rattle.std.specs.Prelude.{◌⊎◌, ℕ, ℤ, List, false, true};
     ghost use Rattle.ts_sweep.specs.declared.packed.Ends.{Ends};
     ghost use Rattle.ts_sweep.specs.declared.packed.Name.{Name};
     ghost use Rattle.ts_sweep.specs.Lanes.{greater_of, no_lanes, some_lanes};
-    ghost use Rattle.ts_sweep.specs.Packed.{IsPacked, ends_in, is_wide, name_ends, place, with_ends_in};
+    ghost use Rattle.ts_sweep.specs.Packed.{IsPacked, ends_in, is_wide, name_ends, place, unpacked, with_ends_in};
+    ghost use Rattle.ts_sweep.specs.Sides.{BothEnds, Sides, as_read, kept_ends, seen_hull};
 
-    /// How many lanes there are.
+    /// Which ends it has.
+    ghost sides: { Sides };
+
+    /// How many lanes there are for both ends.
     ghost count: { ℕ };
 
-    /// The lanes.
+    /// The lanes of both ends, those of an end that it hasn't infinite.
     ghost lanes: { Self → List ℤ };
 
     /// The hull with other ends of a register, if it has lanes for it.
@@ -64,15 +77,19 @@ pub trait Packed: Hull {
     fn is_wide() -> bool
         ensures { result ≡ is_wide count };
 
+    /// Whether it has both ends.
+    fn has_both() -> bool
+        ensures { result ≡ true → sides ≡ BothEnds };
+
     /// Whether registers lie in it.
     fn is_some(&self) -> bool
         ensures { result ≡ some_lanes (lanes self.now) };
 
-    /// The ends of a register.
+    /// The ends of a register. An end that the hull hasn't is 0, which may be added to anything.
     fn ends(&self, register: Name) -> Ends
         requires registers { 6 ≤ count }
-        ensures placed { result ≡ ends_in (lanes self.now) (place count register) }
-        ensures value { result ≡ name_ends (lanes self.now) register };
+        ensures placed { result ≡ ends_in (as_read sides (lanes self.now)) (place count register) }
+        ensures value { result ≡ name_ends (as_read sides (lanes self.now)) register };
 
     /// The hull with other ends of a register, if it has lanes for it.
     fn with(self, register: Name, e: Ends) -> Self
@@ -86,7 +103,12 @@ pub trait Packed: Hull {
     ghost takes_none: { (h : Self) → IsPacked count (lanes h) → Self.both h Self.none ≡ h };
 
     ghost replaced_lanes: { (h : Self) (register : Name) (e : Ends) → lanes (replaced h register e)
-        ≡ with_ends_in (lanes h) (place count register) e };
+        ≡ with_ends_in (lanes h) (place count register) (kept_ends sides e) };
+
+    ghost alone: { (sides ≡ BothEnds) ⊎ (is_wide count ≡ false) };
+
+    ghost shown: { (h : Self) → 6 ≤ count → IsPacked count (lanes h) →
+        seen_hull sides (unpacked (lanes h)) ≡ unpacked (lanes h) };
 }
 
 /// The ends of a number.
@@ -116,20 +138,28 @@ fn greater<const N: usize>(a: [i64; N], b: [i64; N]) -> [i64; N]
 /// Whether lanes hold registers: the first lane shows it.
 #[inline(always)]
 fn has_some<const N: usize>(at: [i64; N]) -> bool
-    ensures { result ≡ some_lanes at.entry }
+    ensures { result ≡ some_lanes (lanes_in N at.entry) }
 {
     N > 0 && at[0] != i64::MIN
+}
+
+/// Whether there are lanes for five registers.
+#[inline(always)]
+fn has_ten<const N: usize>() -> bool
+    ensures { result ≡ has_wide N }
+{
+    10 <= N
 }
 
 /// The place of a register, if it has one.
 #[inline(always)]
 fn place<const N: usize>(register: Name) -> Option<usize>
-    requires registers { 6 ≤ N }
-    ensures value { result ≡ place N register }
-    ensures inside { IsPlace N result }
+    requires registers { 6 ≤ lane_count N }
+    ensures value { result ≡ place (lane_count N) register }
+    ensures inside { IsPlace (lane_count N) result }
     ensures few { IfSome result (λ p. p ≤ 4) }
 {
-    let wide = 10 <= N;
+    let wide = has_ten::<N>();
     match register {
         Name::C => Some(0),
         Name::E => if wide { Some(1) } else { None },
@@ -139,35 +169,74 @@ fn place<const N: usize>(register: Name) -> Option<usize>
     }
 }
 
-/// The ends at a place in lanes.
+/// The ends of the register at a place in lanes.
 #[inline(always)]
-fn ends_of<const N: usize>(at: &[i64; N], place: Option<usize>) -> Ends
-    requires inside { IsPlace N place }
-    requires few { IfSome place (λ p. p ≤ 4) }
-    ensures { result ≡ ends_in at.now place }
+fn ends_at<const N: usize>(at: &[i64; N], p: usize) -> Ends
+    requires inside { 2 * p + 1 < lane_count N }
+    requires few { p ≤ 4 }
+    ensures { result ≡ ends_in (as_read (sides N) (lanes_in N at.now)) (Some p) }
 {
-    match place {
-        Some(p) => Ends {
+    if N == UPPER {
+        Ends {
+            below: 0,
+            above: at[p],
+        }
+    } else if N == LOWER {
+        Ends {
+            below: at[p],
+            above: 0,
+        }
+    } else {
+        Ends {
             below: at[2 * p],
             above: at[2 * p + 1],
-        },
+        }
+    }
+}
+
+/// The ends at a place in lanes, if there is one.
+#[inline(always)]
+fn ends_of<const N: usize>(at: &[i64; N], place: Option<usize>) -> Ends
+    requires inside { IsPlace (lane_count N) place }
+    requires few { IfSome place (λ p. p ≤ 4) }
+    ensures { result ≡ ends_in (as_read (sides N) (lanes_in N at.now)) place }
+{
+    match place {
+        Some(p) => ends_at(at, p),
         None => Ends { below: 0, above: 0 },
     }
 }
 
-/// Lanes with other ends at a place.
+/// Lanes with other ends of the register at a place.
 #[inline(always)]
-fn with_ends<const N: usize>(lanes: [i64; N], place: Option<usize>, e: Ends) -> [i64; N]
-    requires inside { IsPlace N place }
-    requires few { IfSome place (λ p. p ≤ 4) }
-    ensures { result ≡ with_ends_in lanes.entry place e }
+fn with_ends_at<const N: usize>(lanes: [i64; N], p: usize, e: Ends) -> [i64; N]
+    requires inside { 2 * p + 1 < lane_count N }
+    requires few { p ≤ 4 }
+    ensures { result ≡ with_kept (sides N) lanes.entry (Some p) e }
 {
     let mut at = lanes;
-    if let Some(p) = place {
+    if N == UPPER {
+        at[p] = e.above;
+    } else if N == LOWER {
+        at[p] = e.below;
+    } else {
         at[2 * p] = e.below;
         at[2 * p + 1] = e.above;
     }
     at
+}
+
+/// Lanes with other ends at a place, if there is one.
+#[inline(always)]
+fn with_ends<const N: usize>(lanes: [i64; N], place: Option<usize>, e: Ends) -> [i64; N]
+    requires inside { IsPlace (lane_count N) place }
+    requires few { IfSome place (λ p. p ≤ 4) }
+    ensures { result ≡ with_kept (sides N) lanes.entry place e }
+{
+    match place {
+        Some(p) => with_ends_at(lanes, p, e),
+        None => lanes,
+    }
 }
 
 impl<const N: usize> Hull for PackedHull<N> {
@@ -199,27 +268,39 @@ impl<const N: usize> Hull for PackedHull<N> {
 }
 
 impl<const N: usize> Packed for PackedHull<N> {
-    ghost use Rattle.std.proofs.Common.{ap, refl};
-    ghost use Rattle.ts_sweep.specs.Packed.{place, with_ends_in};
-    ghost use Rattle.ts_sweep.specs.PackedLaws.{packed_lanes};
+    ghost use Rattle.std.proofs.Common.{ap};
+    ghost use Rattle.ts_sweep.specs.Packed.{place};
+    ghost use Rattle.ts_sweep.specs.Sides.{lane_count, lanes_in, sides, with_kept};
+    ghost use Rattle.ts_sweep.specs.SidesLaws.{alone, joined_by, none_by, replaced_by, shown, takes_none};
 
-    ghost count = { N };
+    ghost sides = { sides N };
 
-    ghost lanes = { λ h. h.at };
+    ghost count = { lane_count N };
 
-    ghost replaced = { λ h register e. record { at = with_ends_in h.at (place N register) e } };
+    ghost lanes = { λ h. lanes_in N h.at };
 
-    ghost both_lanes = { λ a b. refl };
+    ghost replaced = { λ h register e. record { at = with_kept (sides N) h.at (place (lane_count N) register) e } };
 
-    ghost none_lanes = { refl };
+    ghost both_lanes = { λ a b. joined_by (sides N) a.at b.at };
 
-    ghost takes_none = { λ h p. ap (λ xs. record { at = xs }) (packed_lanes N h.at p) };
+    ghost none_lanes = { none_by (sides N) N };
 
-    ghost replaced_lanes = { λ h register e. refl };
+    ghost takes_none = { λ h p. ap (λ xs. record { at = xs }) (takes_none (sides N) N h.at p) };
+
+    ghost replaced_lanes = { λ h register e. replaced_by (sides N) h.at (place (lane_count N) register) e };
+
+    ghost alone = { alone N };
+
+    ghost shown = { λ h big p. shown (sides N) N h.at big p };
 
     #[inline(always)]
     fn is_wide() -> bool {
-        10 <= N
+        has_ten::<N>()
+    }
+
+    #[inline(always)]
+    fn has_both() -> bool {
+        N != UPPER && N != LOWER
     }
 
     #[inline(always)]

@@ -8,8 +8,10 @@ ghost use Rattle.ts_hull.specs.Hulls.{hull_of_both, none};
 ghost use Rattle.ts_hull.specs.Sealed.{after_move};
 ghost use Rattle.ts_hull.specs.Sweeps.{compares};
 ghost use Rattle.ts_sweep.specs.Columns.{IsGift, IsMoved, gives, hull_at};
+ghost use Rattle.ts_sweep.specs.Fronts.{IsMoveFor};
 ghost use Rattle.ts_sweep.specs.Moves.{beside};
 ghost use Rattle.ts_sweep.specs.Packed.{ArePacked, IsPacked, is_wide, unpacked};
+ghost use Rattle.ts_sweep.specs.Sides.{as_read, seen_hull};
 ghost use Rattle.ts_sweep.specs.Small.{IsSmall};
 ghost use Rattle.ts_sweep.specs.Trees.{tree_value};
 
@@ -24,7 +26,7 @@ fn ends_beside<H: Packed>(e: &Expr, h: H, x: i64, y: i64) -> Ends
     requires registers { 6 ≤ H.count }
     requires this { IsSmall x }
     requires next { IsSmall y }
-    ensures { result ≡ beside (is_wide H.count) (tree_value (formula e.now) (H.lanes h) x y) }
+    ensures { result ≡ beside (is_wide H.count) (tree_value (formula e.now) (as_read H.sides (H.lanes h)) x y) }
 {
     if H::is_wide() {
         tree_ends::<H>(e, h, x, y)
@@ -37,11 +39,13 @@ fn ends_beside<H: Packed>(e: &Expr, h: H, x: i64, y: i64) -> Ends
 fn moved<H: Packed>(t: &Turn, h: H, x: i64, y: i64) -> H
     requires registers { 6 ≤ H.count }
     requires width { rests is_zero (is_wide H.count) (move_of t.now).to ≡ true }
+    requires suits { IsMoveFor H.sides (move_of t.now) }
     requires packed { IsPacked H.count (H.lanes h) }
     requires this { IsSmall x }
     requires next { IsSmall y }
     ensures packed { IsPacked H.count (H.lanes result) }
-    ensures value { unpacked (H.lanes result) ≡ after_move (move_of t.now) (unpacked (H.lanes h)) x y }
+    ensures value { unpacked (H.lanes result)
+        ≡ seen_hull H.sides (after_move (move_of t.now) (unpacked (H.lanes h)) x y) }
 {
     if !h.is_some() {
         return h;
@@ -73,13 +77,14 @@ fn compares(letter: Letter, twin: bool, v: i64, w: i64) -> bool
 fn with_pair<H: Packed>(t: &Turn, letter: Letter, twin: bool, h: H, v: i64, w: i64, all: H) -> H
     requires registers { 6 ≤ H.count }
     requires width { rests is_zero (is_wide H.count) (move_of t.now).to ≡ true }
+    requires suits { IsMoveFor H.sides (move_of t.now) }
     requires packed { IsPacked H.count (H.lanes h) }
     requires all { IsPacked H.count (H.lanes all) }
     requires this { IsSmall v }
     requires next { IsSmall w }
     ensures packed { IsPacked H.count (H.lanes result) }
-    ensures value { unpacked (H.lanes result) ≡ hull_of_both (unpacked (H.lanes all))
-        (cond (compares letter twin v w) (after_move (move_of t.now) (unpacked (H.lanes h)) v w) none) }
+    ensures value { unpacked (H.lanes result) ≡ hull_of_both (unpacked (H.lanes all)) (seen_hull H.sides
+        (cond (compares letter twin v w) (after_move (move_of t.now) (unpacked (H.lanes h)) v w) none)) }
 {
     if compares(letter, twin, v, w) {
         all.joined(moved(t, h, v, w))
@@ -121,6 +126,7 @@ fn with_moved<H: Packed, V: Values, W: Values>(
 ) -> H
     requires registers { 6 ≤ H.count }
     requires width { rests is_zero (is_wide H.count) (move_of t.now).to ≡ true }
+    requires suits { IsMoveFor H.sides (move_of t.now) }
     requires ok { V.ok values }
     requires next_ok { W.ok next_values }
     requires before { ArePacked H.lanes H.none H.count (V.len values) before.now }
@@ -128,10 +134,10 @@ fn with_moved<H: Packed, V: Values, W: Values>(
     requires next_inside { j < W.len next_values }
     requires all { IsPacked H.count (H.lanes all) }
     ensures packed { IsPacked H.count (H.lanes result) }
-    ensures value { unpacked (H.lanes result) ≡ hull_of_both (unpacked (H.lanes all))
+    ensures value { unpacked (H.lanes result) ≡ hull_of_both (unpacked (H.lanes all)) (seen_hull H.sides
         (cond (compares letter twin (V.value values i) (W.value next_values j))
         (after_move (move_of t.now) (hull_at H.lanes H.none before.now i) (V.value values i)
-        (W.value next_values j)) none) }
+        (W.value next_values j)) none)) }
 {
     let h = hull_of(before, i);
     let v = values.at(i);
@@ -151,13 +157,15 @@ fn given<H: Packed, V: Values, W: Values>(
 ) -> H
     requires registers { 6 ≤ H.count }
     requires width { rests is_zero (is_wide H.count) (move_of t.now).to ≡ true }
+    requires suits { IsMoveFor H.sides (move_of t.now) }
     requires ok { V.ok values }
     requires next_ok { W.ok next_values }
     requires before { ArePacked H.lanes H.none H.count (V.len values) before.now }
     requires inside { j < W.len next_values }
     ensures packed { IsPacked H.count (H.lanes result) }
-    ensures value { unpacked (H.lanes result) ≡ gives (move_of t.now) letter twin (V.len values) (V.value values)
-        (hull_at H.lanes H.none before.now) (W.value next_values j) }
+    ensures value { unpacked (H.lanes result) ≡ seen_hull H.sides
+        (gives (move_of t.now) letter twin (V.len values) (V.value values) (hull_at H.lanes H.none before.now)
+        (W.value next_values j)) }
 {
     let mut all = H::nothing();
     for i in 0..values.count() {
@@ -179,13 +187,15 @@ fn take_given<H: Packed, V: Values, W: Values>(
 )
     requires registers { 6 ≤ H.count }
     requires width { rests is_zero (is_wide H.count) (move_of t.now).to ≡ true }
+    requires suits { IsMoveFor H.sides (move_of t.now) }
     requires ok { V.ok values }
     requires next_ok { W.ok next_values }
     requires packed { ArePacked H.lanes H.none H.count (V.len values) before.now }
     requires inside { j < W.len next_values }
     requires next_packed { length next.old ≡ W.len next_values }
-    ensures { IsGift H.both H.lanes H.none H.count (gives (move_of t.now) letter twin (V.len values) (V.value values)
-        (hull_at H.lanes H.none before.now) (W.value next_values j)) j next.old next.new }
+    ensures { IsGift H.both H.lanes H.none H.count (seen_hull H.sides
+        (gives (move_of t.now) letter twin (V.len values) (V.value values) (hull_at H.lanes H.none before.now)
+        (W.value next_values j))) j next.old next.new }
 {
     let gift = given::<H, V, W>(t, letter, twin, values, before, next_values, j);
     join_at(next, j, gift);
@@ -203,12 +213,14 @@ pub fn take_pairs<H: Packed, V: Values, W: Values>(
 )
     requires registers { 6 ≤ H.count }
     requires width { rests is_zero (is_wide H.count) (move_of t.now).to ≡ true }
+    requires suits { IsMoveFor H.sides (move_of t.now) }
     requires ok { V.ok values }
     requires next_ok { W.ok next_values }
     requires packed { ArePacked H.lanes H.none H.count (V.len values) before.now }
     requires next_packed { ArePacked H.lanes H.none H.count (W.len next_values) next.old }
     ensures packed { ArePacked H.lanes H.none H.count (W.len next_values) next.new }
-    ensures taken { IsMoved H.lanes H.none (move_of t.now) letter twin (V.len values) (V.value values) before.now
+    ensures taken { IsMoved H.sides H.lanes H.none (move_of t.now) letter twin (V.len values)
+        (V.value values) before.now
         (W.len next_values) (W.value next_values) next.old next.new }
 {
     for j in 0..next_values.count() {

@@ -1,9 +1,11 @@
 //! How the expression of a register reads the next cell: not at all, or as the last operand of an operator.
 
 ghost use Rattle.std.specs.Prelude.{◌≡◌, ℤ, List, ◌≤◌, true};
-ghost use Rattle.ts_sweep.specs.Packed.{AreSome, IsUnder};
+ghost use Rattle.ts_sweep.specs.Covers.{IsBounded};
+ghost use Rattle.ts_sweep.specs.Sides.{as_read};
 ghost use Rattle.ts_sweep.specs.Small.{IsSmall};
 
+use crate::cover::Cover;
 use crate::front::Front;
 use crate::operator::Folds;
 use crate::packed::{Ends, Packed, number};
@@ -15,7 +17,11 @@ pub trait Part: Copy {
     ghost use Rattle.ts_base.specs.declared.span.Span.{Span};
     ghost use Rattle.ts_hull.specs.Splits.{Split, front_span, closed_span};
     ghost use Rattle.ts_sweep.specs.declared.packed.Ends.{Ends};
-    ghost use Rattle.ts_sweep.specs.Packed.{AreSome, IsPackOf, IsUnder, max_ends, unpacked};
+    ghost use Rattle.ts_automaton.specs.declared.regs.Hull.{Hull};
+    ghost use Rattle.ts_sweep.specs.Covers.{IsBounded};
+    ghost use Rattle.ts_sweep.specs.Fronts.{AreEndsOf, IsSplitFor};
+    ghost use Rattle.ts_sweep.specs.Packed.{max_ends};
+    ghost use Rattle.ts_sweep.specs.Sides.{IsEndsOf, Sides, as_read, read_ends};
     ghost use Rattle.ts_sweep.specs.Small.{IsSmall};
 
     /// The front and the tail.
@@ -40,17 +46,20 @@ pub trait Part: Copy {
     fn has_tail(self) -> bool
         ensures { result ≡ tails self };
 
-    /// Whether the front may be evaluated and closed on all lanes under a cover.
-    fn is_fit<H: Packed>(self, cover: H) -> bool
-        requires registers { 6 ≤ H.count }
-        ensures { result ≡ true → (xs : List ℤ) → AreSome H.count xs → IsUnder xs (H.lanes cover) → fit self xs };
+    /// Whether neither E nor F nor a difference stands in the front: then it may be evaluated on one end alone.
+    fn is_narrow(self) -> bool
+        ensures { result ≡ true → (s : Sides) → IsSplitFor s (split self) };
+
+    /// Whether the front may be evaluated and closed on all lanes that a cover bounds.
+    fn is_fit(self, cover: &Cover) -> bool
+        ensures { result ≡ true → (xs : List ℤ) → IsBounded cover.now xs → fit self xs };
 
     /// The front.
     fn begun<H: Packed>(self, h: H, x: i64) -> Ends
         requires registers { 6 ≤ H.count }
-        requires fit { fit self (H.lanes h) }
+        requires fit { fit self (as_read H.sides (H.lanes h)) }
         requires small { IsSmall x }
-        ensures { result ≡ front self (H.lanes h) x };
+        ensures { result ≡ front self (as_read H.sides (H.lanes h)) x };
 
     /// What the next value makes of ends.
     fn closed(self, e: Ends, y: i64) -> Ends
@@ -62,13 +71,15 @@ pub trait Part: Copy {
 
     ghost closable_front: { (k : Self) (xs : List ℤ) (x : ℤ) → fit k xs → IsSmall x → closable k (front k xs x) };
 
-    ghost front_packs: { (k : Self) (n : ℕ) (xs : List ℤ) (x : ℤ) → 6 ≤ n → AreSome n xs → fit k xs → IsSmall x →
-        IsPackOf (front k xs x) (front_span (split k) (unpacked xs) x) };
+    ghost closable_read: { (k : Self) (s : Sides) (e : Ends) → closable k e → closable k (read_ends s e) };
+
+    ghost front_packs: { (k : Self) (s : Sides) (xs : List ℤ) (h : Hull) (x : ℤ) → AreEndsOf s xs h →
+        IsSplitFor s (split k) → fit k xs → IsSmall x → IsEndsOf s (front k xs x) (front_span (split k) h x) };
 
     ghost no_tail: { (k : Self) → tails k ≡ false → (s : Span) (y : ℤ) → closed_span (split k) s y ≡ s };
 
-    ghost closing_packs: { (k : Self) (e : Ends) (s : Span) (y : ℤ) → IsPackOf e s → closable k e → IsSmall y →
-        IsPackOf (closing k e y) (closed_span (split k) s y) };
+    ghost closing_packs: { (k : Self) (s : Sides) (e : Ends) (t : Span) (y : ℤ) → IsEndsOf s e t → closable k e →
+        IsSmall y → IsEndsOf s (closing k e y) (closed_span (split k) t y) };
 }
 
 /// An expression that doesn't read the next cell.
@@ -105,11 +116,13 @@ impl<E: Front> Part for Whole<E> {
 
     ghost closable_front = { λ k xs x h small. tt };
 
-    ghost front_packs = { λ k n xs x big some h small. E.packs k.front n xs x big some h small };
+    ghost closable_read = { λ k s e p. tt };
+
+    ghost front_packs = { λ k s xs h x are suits fits small. E.packs k.front s xs h x are suits fits small };
 
     ghost no_tail = { λ k t s y. refl };
 
-    ghost closing_packs = { λ k e s y p h small. p };
+    ghost closing_packs = { λ k s e t y p h small. p };
 
     #[inline(always)]
     fn has_tail(self) -> bool {
@@ -117,7 +130,12 @@ impl<E: Front> Part for Whole<E> {
     }
 
     #[inline(always)]
-    fn is_fit<H: Packed>(self, cover: H) -> bool {
+    fn is_narrow(self) -> bool {
+        self.front.is_narrow()
+    }
+
+    #[inline(always)]
+    fn is_fit(self, cover: &Cover) -> bool {
         self.front.is_fit(false, cover)
     }
 
@@ -137,7 +155,7 @@ impl<O: Folds, E: Front> Part for Tail<O, E> {
     ghost use Rattle.ts_hull.specs.Splits.{TailOf};
     ghost use Rattle.ts_sweep.specs.Packed.{ends, AreWithin};
     ghost use Rattle.ts_sweep.specs.FrontLaws.{never_added};
-    ghost use Rattle.ts_sweep.specs.TailLaws.{tail_both, tail_front, tail_loose, tail_packs};
+    ghost use Rattle.ts_sweep.specs.TailLaws.{tail_both, tail_front, tail_loose, tail_packs, tail_read};
 
     ghost split = { λ k. TailOf (O.fold k.by) (E.formula k.front) };
 
@@ -157,13 +175,15 @@ impl<O: Folds, E: Front> Part for Tail<O, E> {
         (λ b. E.fit k.front b xs)
         (E.value k.front xs x) (λ le g. E.within k.front xs x le g small) h.0 h.1 added };
 
-    ghost front_packs = { λ k n xs x big some h small. E.packs k.front n xs x big some
-        (tail_loose (O.adds k.by) (λ b. E.fit k.front b xs) (E.looser k.front xs) h.1) small };
+    ghost closable_read = { λ k s e p added. tail_read s e (p added) };
+
+    ghost front_packs = { λ k s xs h x are suits fits small. E.packs k.front s xs h x are suits
+        (tail_loose (O.adds k.by) (λ b. E.fit k.front b xs) (E.looser k.front xs) fits.1) small };
 
     ghost no_tail = { λ k t s y. never_added t };
 
-    ghost closing_packs = { λ k e s y p h small. tail_packs (O.adds k.by) (O.joined k.by) (O.op k.by)
-        (O.fold k.by) e s y (O.folds k.by) (O.packs k.by) p h small };
+    ghost closing_packs = { λ k s e t y p h small. tail_packs s (O.adds k.by) (O.joined k.by) (O.op k.by)
+        (O.fold k.by) e t y (O.folds k.by) (O.packs k.by) p h small };
 
     #[inline(always)]
     fn has_tail(self) -> bool {
@@ -171,7 +191,12 @@ impl<O: Folds, E: Front> Part for Tail<O, E> {
     }
 
     #[inline(always)]
-    fn is_fit<H: Packed>(self, cover: H) -> bool {
+    fn is_narrow(self) -> bool {
+        self.front.is_narrow()
+    }
+
+    #[inline(always)]
+    fn is_fit(self, cover: &Cover) -> bool {
         self.front.words() <= 9 && self.front.is_fit(self.by.is_sum(), cover)
     }
 

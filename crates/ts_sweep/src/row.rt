@@ -8,9 +8,9 @@ ghost use Rattle.ts_hull.specs.Cuts.{all_swept, cut_of};
 ghost use Rattle.ts_hull.specs.Hulls.{none};
 ghost use Rattle.ts_hull.specs.Sealed.{after_move};
 ghost use Rattle.ts_hull.specs.Sweeps.{AllTakeNone, compares, hull_in, puts, step_place, total};
-ghost use Rattle.ts_sweep.specs.Strided.{IsPackable, greatest_lanes, packed_at};
+ghost use Rattle.ts_sweep.specs.Strided.{IsPackable, packed_at};
 
-use crate::cover::cover;
+use crate::cover::{Cover, cover_of};
 use crate::moves::Moves;
 use crate::packed::PackedHull;
 use crate::strided::Strided;
@@ -18,15 +18,6 @@ use crate::take::take;
 use crate::values::Values;
 use ts_automaton::Hull;
 use ts_base::Letter;
-
-/// A hull that all others are under.
-#[inline(always)]
-fn greatest<const N: usize>() -> PackedHull<N>
-    requires lanes { N ≤ 64 }
-    ensures { result.at ≡ greatest_lanes N }
-{
-    PackedHull { at: [i64::MAX; N] }
-}
 
 /// Whether the sums of a move stay small on all hulls of a state: they do if the move adds nothing, or if they do on
 /// all hulls under the cover.
@@ -39,10 +30,10 @@ fn row_fits<const N: usize, F: Moves<PackedHull<N>>>(by: F, from: Strided, befor
     requires packable { (p : ℕ) → IsPackable N (get_or before.now p none) }
     ensures { result ≡ true → (i : ℕ) → i < from.count → F.fit by (packed_at N from.states from.state before.now i) }
 {
-    if by.is_fit(greatest::<N>()) {
+    if by.is_fit(&Cover::greatest()) {
         return true;
     }
-    by.is_fit(cover::<PackedHull<N>, Strided>(from, before, from.count))
+    by.is_fit(&cover_of::<N, Strided>(from, before, from.count))
 }
 
 /// Takes a move of a state into a state of the next row, if its sums stay small.

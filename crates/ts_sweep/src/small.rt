@@ -2,8 +2,9 @@
 
 ghost use Rattle.std.specs.Prelude.{◌≡◌, ◌≤◌};
 ghost use Rattle.std.specs.List.{list_all};
-ghost use Rattle.ts_hull.specs.Smalls.{small, small_hull, small_span};
-ghost use Rattle.ts_sweep.specs.Packed.{ends_span, unpacked, upper};
+ghost use Rattle.ts_hull.specs.Smalls.{small, small_span};
+ghost use Rattle.ts_sweep.specs.Packed.{ends_span, small_lanes, upper};
+ghost use Rattle.ts_sweep.specs.Sides.{as_read};
 
 use crate::packed::{Ends, Name, Packed};
 
@@ -30,7 +31,7 @@ fn are_small_ends(e: Ends) -> bool
 #[inline(always)]
 fn is_small<H: Packed>(h: &H) -> bool
     requires { 6 ≤ H.count }
-    ensures { result ≡ small_hull (unpacked (H.lanes h.now)) }
+    ensures { result ≡ small_lanes (as_read H.sides (H.lanes h.now)) }
 {
     are_small_ends(h.ends(Name::C))
         & are_small_ends(h.ends(Name::E))
@@ -44,7 +45,7 @@ fn is_small<H: Packed>(h: &H) -> bool
 #[inline(never)]
 pub(crate) fn are_small<H: Packed>(hulls: &[H]) -> bool
     requires { 6 ≤ H.count }
-    ensures { result ≡ list_all (λ h. small_hull (unpacked (H.lanes h))) hulls.now }
+    ensures { result ≡ list_all (λ h. small_lanes (as_read H.sides (H.lanes h))) hulls.now }
 {
     hulls.iter().all(|h| is_small::<H>(h))
 }

@@ -1,6 +1,6 @@
 //! A move whose expressions are known only when the program runs, if it can be swept.
 
-ghost use Rattle.std.specs.Prelude.{◌≡◌, ◌≤◌, MatchOption, true, false, get_or};
+ghost use Rattle.std.specs.Prelude.{◌≡◌, ◌≤◌, MatchOption, true, false};
 ghost use Rattle.ts_automaton.specs.Body.{Move, move_of};
 ghost use Rattle.ts_automaton.specs.Formula.{is_zero};
 ghost use Rattle.ts_automaton.specs.Registers.{rests};
@@ -8,10 +8,11 @@ ghost use Rattle.ts_base.specs.declared.letter.Letter.TheVariants.{Equal};
 ghost use Rattle.ts_hull.specs.Cuts.{all_swept, cut_of};
 ghost use Rattle.ts_sweep.specs.AnyParts.{parts_cut};
 ghost use Rattle.ts_sweep.specs.Columns.{IsMoved};
+ghost use Rattle.ts_sweep.specs.Covers.{IsCoverOf};
 ghost use Rattle.ts_sweep.specs.Packed.{ArePacked, is_wide};
-ghost use Rattle.ts_sweep.specs.Sweeps.{total};
 
 use crate::any_part::AnyPart;
+use crate::cover::Cover;
 use crate::moves::{Parts, has_tail};
 use crate::packed::Packed;
 use crate::small::are_small;
@@ -41,7 +42,7 @@ fn take_parts<H: Packed, V: Values, W: Values>(
     parts: AnyParts<'_>,
     letter: Letter,
     twin: bool,
-    cover: H,
+    cover: &Cover,
     values: V,
     before: &[H],
     next_values: W,
@@ -52,12 +53,12 @@ fn take_parts<H: Packed, V: Values, W: Values>(
     requires ok { V.ok values }
     requires next_ok { W.ok next_values }
     requires packed { ArePacked H.lanes H.none H.count (V.len values) before.now }
-    requires covers { cover ≡ total H.both H.none (λ i. true) (λ i. get_or before.now i H.none) (V.len values) }
+    requires covers { IsCoverOf H.sides H.lanes H.none cover.now (V.len values) before.now }
     requires next_packed { ArePacked H.lanes H.none H.count (W.len next_values) next.old }
     requires alone { letter ≡ Equal → twin ≡ false }
     ensures packed { ArePacked H.lanes H.none H.count (W.len next_values) next.new }
     ensures taken { result ≡ true → (m : Move) → rests is_zero (is_wide H.count) m.to ≡ true →
-        cut_of m ≡ parts_cut parts.entry → IsMoved H.lanes H.none m letter twin (V.len values)
+        cut_of m ≡ parts_cut parts.entry → IsMoved H.sides H.lanes H.none m letter twin (V.len values)
         (V.value values) before.now (W.len next_values) (W.value next_values) next.old next.new }
     ensures kept { result ≡ false → next.new ≡ next.old }
 {
@@ -93,7 +94,7 @@ pub fn take_swept<H: Packed, V: Values, W: Values>(
     t: &Turn,
     letter: Letter,
     twin: bool,
-    cover: H,
+    cover: &Cover,
     values: V,
     before: &[H],
     next_values: W,
@@ -104,11 +105,11 @@ pub fn take_swept<H: Packed, V: Values, W: Values>(
     requires ok { V.ok values }
     requires next_ok { W.ok next_values }
     requires packed { ArePacked H.lanes H.none H.count (V.len values) before.now }
-    requires covers { cover ≡ total H.both H.none (λ i. true) (λ i. get_or before.now i H.none) (V.len values) }
+    requires covers { IsCoverOf H.sides H.lanes H.none cover.now (V.len values) before.now }
     requires next_packed { ArePacked H.lanes H.none H.count (W.len next_values) next.old }
     requires alone { letter ≡ Equal → twin ≡ false }
     ensures packed { ArePacked H.lanes H.none H.count (W.len next_values) next.new }
-    ensures taken { result ≡ true → IsMoved H.lanes H.none (move_of t.now) letter twin (V.len values)
+    ensures taken { result ≡ true → IsMoved H.sides H.lanes H.none (move_of t.now) letter twin (V.len values)
         (V.value values) before.now (W.len next_values) (W.value next_values) next.old next.new }
     ensures kept { result ≡ false → next.new ≡ next.old }
 {

@@ -6,10 +6,12 @@ ghost use Rattle.ts_base.specs.declared.letter.Letter.TheVariants.{Equal};
 ghost use Rattle.ts_hull.specs.Cuts.{all_swept, all_whole, cut_of};
 ghost use Rattle.ts_hull.specs.Smalls.{small_hull};
 ghost use Rattle.ts_sweep.specs.Columns.{IsMoved, hull_at};
+ghost use Rattle.ts_sweep.specs.Covers.{IsCoverOf};
 ghost use Rattle.ts_sweep.specs.Packed.{ArePacked};
-ghost use Rattle.ts_sweep.specs.Sweeps.{IsTakenIn, met_hull, passed_hull, total};
+ghost use Rattle.ts_sweep.specs.Sweeps.{IsTakenIn, met_hull, passed_hull};
 
 use crate::column::{Column, Dense};
+use crate::cover::Cover;
 use crate::equal::sweep_equal;
 use crate::hull::Hull;
 use crate::moves::Moves;
@@ -124,10 +126,10 @@ pub fn take<H: Hull, F: Fronts<H>, V: Values, W: Values, C: Column<H>>(
 
 /// Whether the sums of a move stay small on all hulls of a column: whether they do under its cover.
 #[inline(always)]
-fn all_fit<H: Packed, F: Moves<H>>(by: F, cover: H, hulls: &[H]) -> bool
+fn all_fit<H: Packed, F: Moves<H>>(by: F, cover: &Cover, hulls: &[H]) -> bool
     requires registers { 6 ≤ H.count }
     requires packed { ArePacked H.lanes H.none H.count (length hulls.now) hulls.now }
-    requires covers { cover ≡ total H.both H.none (λ i. true) (λ i. get_or hulls.now i H.none) (length hulls.now) }
+    requires covers { IsCoverOf H.sides H.lanes H.none cover.now (length hulls.now) hulls.now }
     ensures { result ≡ true → (i : ℕ) → i < length hulls.now → F.fit by (get_or hulls.now i H.none) }
 {
     let _hulls = hulls;
@@ -140,7 +142,7 @@ pub fn take_fit<H: Packed, F: Moves<H>, V: Values, W: Values>(
     by: F,
     letter: Letter,
     twin: bool,
-    cover: H,
+    cover: &Cover,
     values: V,
     before: &[H],
     next_values: W,
@@ -150,7 +152,7 @@ pub fn take_fit<H: Packed, F: Moves<H>, V: Values, W: Values>(
     requires ok { V.ok values }
     requires next_ok { W.ok next_values }
     requires packed { ArePacked H.lanes H.none H.count (V.len values) before.now }
-    requires covers { cover ≡ total H.both H.none (λ i. true) (λ i. get_or before.now i H.none) (V.len values) }
+    requires covers { IsCoverOf H.sides H.lanes H.none cover.now (V.len values) before.now }
     requires next_packed { ArePacked H.lanes H.none H.count (W.len next_values) next.old }
     requires alone { letter ≡ Equal → twin ≡ false }
     ensures packed { ArePacked H.lanes H.none H.count (W.len next_values) next.new }
@@ -186,7 +188,7 @@ pub fn take_column<H: Packed, F: Moves<H>, V: Values, W: Values>(
     by: F,
     letter: Letter,
     twin: bool,
-    cover: H,
+    cover: &Cover,
     values: V,
     before: &[H],
     next_values: W,
@@ -197,12 +199,12 @@ pub fn take_column<H: Packed, F: Moves<H>, V: Values, W: Values>(
     requires ok { V.ok values }
     requires next_ok { W.ok next_values }
     requires packed { ArePacked H.lanes H.none H.count (V.len values) before.now }
-    requires covers { cover ≡ total H.both H.none (λ i. true) (λ i. get_or before.now i H.none) (V.len values) }
+    requires covers { IsCoverOf H.sides H.lanes H.none cover.now (V.len values) before.now }
     requires next_packed { ArePacked H.lanes H.none H.count (W.len next_values) next.old }
     requires alone { letter ≡ Equal → twin ≡ false }
     ensures packed { ArePacked H.lanes H.none H.count (W.len next_values) next.new }
     ensures taken { result ≡ true → (m : Move) → cut_of m ≡ F.cut by →
-        IsMoved H.lanes H.none m letter twin (V.len values)
+        IsMoved H.sides H.lanes H.none m letter twin (V.len values)
         (V.value values) before.now (W.len next_values) (W.value next_values) next.old next.new }
     ensures kept { result ≡ false → next.new ≡ next.old }
 {
@@ -216,7 +218,7 @@ pub fn take_small<H: Packed, F: Moves<H>, V: Values, W: Values>(
     by: F,
     letter: Letter,
     twin: bool,
-    cover: H,
+    cover: &Cover,
     values: V,
     before: &[H],
     next_values: W,
@@ -228,12 +230,12 @@ pub fn take_small<H: Packed, F: Moves<H>, V: Values, W: Values>(
     requires next_ok { W.ok next_values }
     requires packed { ArePacked H.lanes H.none H.count (V.len values) before.now }
     requires small { (i : ℕ) → i < V.len values → small_hull (hull_at H.lanes H.none before.now i) ≡ true }
-    requires covers { cover ≡ total H.both H.none (λ i. true) (λ i. get_or before.now i H.none) (V.len values) }
+    requires covers { IsCoverOf H.sides H.lanes H.none cover.now (V.len values) before.now }
     requires next_packed { ArePacked H.lanes H.none H.count (W.len next_values) next.old }
     requires alone { letter ≡ Equal → twin ≡ false }
     ensures packed { ArePacked H.lanes H.none H.count (W.len next_values) next.new }
     ensures taken { result ≡ true → (m : Move) → cut_of m ≡ F.cut by →
-        IsMoved H.lanes H.none m letter twin (V.len values)
+        IsMoved H.sides H.lanes H.none m letter twin (V.len values)
         (V.value values) before.now (W.len next_values) (W.value next_values) next.old next.new }
     ensures kept { result ≡ false → next.new ≡ next.old }
 {

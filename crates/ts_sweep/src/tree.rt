@@ -2,10 +2,12 @@
 //! they serve all hulls.
 
 ghost use Rattle.std.specs.Prelude.{◌≡◌, ◌≤◌};
-ghost use Rattle.ts_automaton.specs.Formula.{formula};
+ghost use Rattle.ts_automaton.specs.Formula.{formula, is_narrow};
+ghost use Rattle.ts_sweep.specs.Sides.{as_read};
 ghost use Rattle.ts_sweep.specs.Small.{IsSmall};
 ghost use Rattle.ts_sweep.specs.Trees.{folded_by, sum_above, sum_below, tree_value};
 
+use crate::cover::Cover;
 use crate::front::Front;
 use crate::operator::{Folds, Operator, crossed};
 use crate::packed::{Ends, Name, Packed, number};
@@ -21,6 +23,17 @@ pub struct AnyOperator {
 #[derive(Clone, Copy)]
 pub struct Tree<'a> {
     pub expr: &'a Expr,
+}
+
+/// Whether neither E nor F nor a difference stands in an expression.
+pub(crate) fn is_narrow(e: &Expr) -> bool
+    ensures { result ≡ is_narrow (formula e.now) }
+{
+    match e {
+        Expr::E | Expr::F | Expr::Sub(_, _) => false,
+        Expr::Add(a, b) | Expr::Max(a, b) | Expr::Min(a, b) => is_narrow(a) && is_narrow(b),
+        _ => true,
+    }
 }
 
 /// The sum of two upper ends, clamped.
@@ -76,7 +89,7 @@ pub(crate) fn tree_ends<H: Packed>(e: &Expr, h: H, x: i64, y: i64) -> Ends
     requires registers { 6 ≤ H.count }
     requires small { IsSmall x }
     requires next { IsSmall y }
-    ensures { result ≡ tree_value (formula e.now) (H.lanes h) x y }
+    ensures { result ≡ tree_value (formula e.now) (as_read H.sides (H.lanes h)) x y }
 {
     match e {
         Expr::C => h.ends(Name::C),
@@ -131,12 +144,17 @@ impl Operator for AnyOperator {
 
     ghost joined = { λ k a b. folded_by k.op a b };
 
-    ghost packs = { λ k i j a b s t few small p q. any_packs k.op a b s t p q };
+    ghost packs = { λ k s i j a b t u serves few small p q. any_packs k.op s a b t u p q };
 
     ghost within = { λ k i j a b few p q. any_within k.op i j a b few p q };
 
     #[inline(always)]
     fn is_sum(self) -> bool {
+        false
+    }
+
+    #[inline(always)]
+    fn is_difference(self) -> bool {
         false
     }
 
@@ -174,8 +192,8 @@ impl<'a> Front for Tree<'a> {
 
     ghost within = { λ k xs x few h small. never_added h };
 
-    ghost packs = { λ k n xs x big some h small. tree_packs (formula k.expr.now) n xs x
-        (pos 0) big some small zero_small };
+    ghost packs = { λ k s xs h x are suits fits small. tree_packs (formula k.expr.now) s xs h x (pos 0) are suits
+        small zero_small };
 
     #[inline(always)]
     fn words(self) -> u8 {
@@ -183,7 +201,12 @@ impl<'a> Front for Tree<'a> {
     }
 
     #[inline(always)]
-    fn is_fit<H: Packed>(self, added: bool, _cover: H) -> bool {
+    fn is_narrow(self) -> bool {
+        is_narrow(self.expr)
+    }
+
+    #[inline(always)]
+    fn is_fit(self, added: bool, _cover: &Cover) -> bool {
         !added
     }
 

@@ -7,51 +7,66 @@ use Rattle.ts_sweep.specs.declared.packed.Name.TheVariants.{E, D, F, R}
 use Rattle.ts_sweep.specs.Moves.{beside, of_name}
 use Rattle.ts_sweep.specs.MoveLaws.{all_lanes}
 use Rattle.ts_sweep.specs.Packed.{is_wide}
+use Rattle.ts_sweep.specs.Sides.{as_read}
 use Rattle.ts_sweep.specs.Trees.{tree_value}
 use Rattle.ts_sweep.proofs.PairSteps.{as_both_passed, moved_nothing, moved_some}
 use Rattle.ts_sweep.proofs.pairs.moved.Goals as goal
 
 pub returns-then-not-is_some-clause-value : goal.returns-then-not-is_some-clause-value
 returns-then-not-is_some-clause-value g c =
-    moved_nothing (move_of c.args.t.now) g.H.Packed.count (g.H.Packed.lanes c.args.h) c.args.x c.args.y c.requires.registers c.requires.packed
+    moved_nothing g.H.Packed.sides (move_of c.args.t.now) g.H.Packed.count (g.H.Packed.lanes c.args.h) c.args.x c.args.y c.requires.registers c.requires.packed
     (sym c.is_some.ensures ∙ c.if-not-is_some.true)
 
 pub returns-clause-packed : goal.returns-clause-packed
 returns-clause-packed g c =
     let replaced = g.H.Packed.replaced in
     let lanes = g.H.Packed.lanes in
+    let s = g.H.Packed.sides in
     let n = g.H.Packed.count in
     let t = c.args.t.now in
     let e : EachOf Ends = each c.tree_ends-c.result c.ends_beside-e.result c.tree_ends-d.result c.ends_beside-f.result c.tree_ends-r.result in
     let is = c.with-5.ensures ∙ ap (λ z. replaced z R e.r) (c.with-4.ensures ∙ ap (λ z. replaced z F e.f)
     (c.with-3.ensures ∙ ap (λ z. replaced z D e.d) (c.with-2.ensures ∙ ap (λ z. replaced z E e.e) c.with.ensures))) in
-    (moved_some (move_of t) n (lanes c.args.h) (lanes c.with-5.result) c.args.x c.args.y e.c e.e e.d e.f e.r c.requires.registers c.requires.width
-    c.requires.packed (sym c.is_some.ensures ∙ c.if-not-is_some.false) c.requires.this c.requires.next
-    (as_both_passed (λ x y. e.c ≡ tree_value (formula t.c) (lanes c.args.h) x y) c.args.x c.args.y c.requires.this c.requires.next c.tree_ends-c.ensures)
-    (as_both_passed (λ x y. e.e ≡ beside (is_wide n) (tree_value (formula t.e) (lanes c.args.h) x y)) c.args.x c.args.y c.requires.this c.requires.next
+    (moved_some s (move_of t) n (lanes c.args.h) (lanes c.with-5.result) c.args.x c.args.y e.c e.e e.d e.f e.r g.met.H.Packed.alone c.requires.registers
+    c.requires.width
+    c.requires.suits c.requires.packed (sym c.is_some.ensures ∙ c.if-not-is_some.false) c.requires.this c.requires.next
+    (as_both_passed (λ x y. e.c ≡ tree_value (formula t.c) (as_read s (lanes c.args.h)) x y) c.args.x c.args.y c.requires.this c.requires.next
+    c.tree_ends-c.ensures)
+    (as_both_passed (λ x y. e.e ≡ beside (is_wide n) (tree_value (formula t.e) (as_read s (lanes c.args.h)) x y)) c.args.x c.args.y c.requires.this
+    c.requires.next
     c.ends_beside-e.ensures)
-    (as_both_passed (λ x y. e.d ≡ tree_value (formula t.d) (lanes c.args.h) x y) c.args.x c.args.y c.requires.this c.requires.next c.tree_ends-d.ensures)
-    (as_both_passed (λ x y. e.f ≡ beside (is_wide n) (tree_value (formula t.f) (lanes c.args.h) x y)) c.args.x c.args.y c.requires.this c.requires.next
+    (as_both_passed (λ x y. e.d ≡ tree_value (formula t.d) (as_read s (lanes c.args.h)) x y) c.args.x c.args.y c.requires.this c.requires.next
+    c.tree_ends-d.ensures)
+    (as_both_passed (λ x y. e.f ≡ beside (is_wide n) (tree_value (formula t.f) (as_read s (lanes c.args.h)) x y)) c.args.x c.args.y c.requires.this
+    c.requires.next
     c.ends_beside-f.ensures)
-    (as_both_passed (λ x y. e.r ≡ tree_value (formula t.r) (lanes c.args.h) x y) c.args.x c.args.y c.requires.this c.requires.next c.tree_ends-r.ensures)
-    (ap lanes is ∙ all_lanes lanes replaced n g.H.Hull.none g.met.H.Packed.none_lanes g.met.H.Packed.replaced_lanes c.args.h (of_name e))).0
+    (as_both_passed (λ x y. e.r ≡ tree_value (formula t.r) (as_read s (lanes c.args.h)) x y) c.args.x c.args.y c.requires.this c.requires.next
+    c.tree_ends-r.ensures)
+    (ap lanes is ∙ all_lanes s lanes replaced n g.H.Hull.none g.met.H.Packed.none_lanes g.met.H.Packed.replaced_lanes c.args.h (of_name e))).0
 
 pub returns-clause-value : goal.returns-clause-value
 returns-clause-value g c =
     let replaced = g.H.Packed.replaced in
     let lanes = g.H.Packed.lanes in
+    let s = g.H.Packed.sides in
     let n = g.H.Packed.count in
     let t = c.args.t.now in
     let e : EachOf Ends = each c.tree_ends-c.result c.ends_beside-e.result c.tree_ends-d.result c.ends_beside-f.result c.tree_ends-r.result in
     let is = c.with-5.ensures ∙ ap (λ z. replaced z R e.r) (c.with-4.ensures ∙ ap (λ z. replaced z F e.f)
     (c.with-3.ensures ∙ ap (λ z. replaced z D e.d) (c.with-2.ensures ∙ ap (λ z. replaced z E e.e) c.with.ensures))) in
-    (moved_some (move_of t) n (lanes c.args.h) (lanes c.with-5.result) c.args.x c.args.y e.c e.e e.d e.f e.r c.requires.registers c.requires.width
-    c.requires.packed (sym c.is_some.ensures ∙ c.if-not-is_some.false) c.requires.this c.requires.next
-    (as_both_passed (λ x y. e.c ≡ tree_value (formula t.c) (lanes c.args.h) x y) c.args.x c.args.y c.requires.this c.requires.next c.tree_ends-c.ensures)
-    (as_both_passed (λ x y. e.e ≡ beside (is_wide n) (tree_value (formula t.e) (lanes c.args.h) x y)) c.args.x c.args.y c.requires.this c.requires.next
+    (moved_some s (move_of t) n (lanes c.args.h) (lanes c.with-5.result) c.args.x c.args.y e.c e.e e.d e.f e.r g.met.H.Packed.alone c.requires.registers
+    c.requires.width
+    c.requires.suits c.requires.packed (sym c.is_some.ensures ∙ c.if-not-is_some.false) c.requires.this c.requires.next
+    (as_both_passed (λ x y. e.c ≡ tree_value (formula t.c) (as_read s (lanes c.args.h)) x y) c.args.x c.args.y c.requires.this c.requires.next
+    c.tree_ends-c.ensures)
+    (as_both_passed (λ x y. e.e ≡ beside (is_wide n) (tree_value (formula t.e) (as_read s (lanes c.args.h)) x y)) c.args.x c.args.y c.requires.this
+    c.requires.next
     c.ends_beside-e.ensures)
-    (as_both_passed (λ x y. e.d ≡ tree_value (formula t.d) (lanes c.args.h) x y) c.args.x c.args.y c.requires.this c.requires.next c.tree_ends-d.ensures)
-    (as_both_passed (λ x y. e.f ≡ beside (is_wide n) (tree_value (formula t.f) (lanes c.args.h) x y)) c.args.x c.args.y c.requires.this c.requires.next
+    (as_both_passed (λ x y. e.d ≡ tree_value (formula t.d) (as_read s (lanes c.args.h)) x y) c.args.x c.args.y c.requires.this c.requires.next
+    c.tree_ends-d.ensures)
+    (as_both_passed (λ x y. e.f ≡ beside (is_wide n) (tree_value (formula t.f) (as_read s (lanes c.args.h)) x y)) c.args.x c.args.y c.requires.this
+    c.requires.next
     c.ends_beside-f.ensures)
-    (as_both_passed (λ x y. e.r ≡ tree_value (formula t.r) (lanes c.args.h) x y) c.args.x c.args.y c.requires.this c.requires.next c.tree_ends-r.ensures)
-    (ap lanes is ∙ all_lanes lanes replaced n g.H.Hull.none g.met.H.Packed.none_lanes g.met.H.Packed.replaced_lanes c.args.h (of_name e))).1
+    (as_both_passed (λ x y. e.r ≡ tree_value (formula t.r) (as_read s (lanes c.args.h)) x y) c.args.x c.args.y c.requires.this c.requires.next
+    c.tree_ends-r.ensures)
+    (ap lanes is ∙ all_lanes s lanes replaced n g.H.Hull.none g.met.H.Packed.none_lanes g.met.H.Packed.replaced_lanes c.args.h (of_name e))).1

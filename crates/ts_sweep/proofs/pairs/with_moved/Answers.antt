@@ -5,6 +5,7 @@ use Rattle.ts_hull.specs.Hulls.{hull_of_both, none}
 use Rattle.ts_hull.specs.Sealed.{after_move}
 use Rattle.ts_hull.specs.Sweeps.{compares}
 use Rattle.ts_sweep.specs.Packed.{unpacked}
+use Rattle.ts_sweep.specs.Sides.{seen_hull}
 use Rattle.ts_sweep.proofs.PairSteps.{as_both_passed}
 use Rattle.ts_sweep.proofs.pairs.with_moved.Goals as goal
 
@@ -13,7 +14,7 @@ returns-clause-value g c =
     let lanes = g.H.Packed.lanes in
     let m = move_of c.args.t.now in
     let given : Hull → ℤ → ℤ → Hull = λ h x y. hull_of_both (unpacked (lanes c.args.all))
-    (cond (compares c.args.letter c.args.twin x y) (after_move m h x y) none) in
+    (seen_hull g.H.Packed.sides (cond (compares c.args.letter c.args.twin x y) (after_move m h x y) none)) in
     as_both_passed (λ x y. unpacked (lanes c.with_pair.result) ≡ given (unpacked (lanes c.hull_of-h.result)) x y) c.at-v.result c.at-w.result
     c.at-v.ensures.small c.at-w.ensures.small c.with_pair.ensures.value
     ∙ ap (λ h. given (unpacked (lanes h)) c.at-v.result c.at-w.result) c.hull_of-h.ensures

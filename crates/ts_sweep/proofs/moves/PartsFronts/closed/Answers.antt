@@ -7,6 +7,7 @@ use Rattle.ts_sweep.specs.Lanes.{some_lanes}
 use Rattle.ts_sweep.specs.MoveLaws.{not_nothing, wide_of, wide_of_f}
 use Rattle.ts_sweep.specs.Moves.{beside}
 use Rattle.ts_sweep.specs.Packed.{ends_in, is_wide, place}
+use Rattle.ts_sweep.specs.Sides.{as_read}
 use Rattle.ts_sweep.proofs.Replaced.{same_each, same_replaced, closed_chosen}
 use Rattle.ts_sweep.proofs.RunSteps.{as_passed}
 use Rattle.ts_sweep.proofs.moves.PartsFronts.closed.Goals as goal
@@ -125,7 +126,7 @@ returns g c =
     let w = c.args.next_value in
     let small = c.requires.small in
     let wide = is_wide n in
-    let at : Name → Ends = λ k. ends_in xs (place n k) in
+    let at : Name → Ends = λ k. ends_in (as_read g.H.Packed.sides xs) (place n k) in
     let made : EachOf Ends =
     each c.closed-c.result c.closed_beside-e.result c.closed-d.result c.closed_beside-f.result c.closed-r.result in
     let closed : EachOf Ends =
@@ -135,7 +136,8 @@ returns g c =
     (c.with-3.ensures ∙ ap (λ z. replaced z D made.d) (c.with-2.ensures ∙ ap (λ z. replaced z E made.e) c.with.ensures))) in
     let same : made ≡ closed =
     same_each
-    (as_passed (λ z. made.c ≡ g.C.Part.closing parts.c c.ends.result z) w small c.closed-c.ensures ∙ ap (λ e. g.C.Part.closing parts.c e w) c.ends.ensures.placed)
+    (as_passed (λ z. made.c ≡ g.C.Part.closing parts.c c.ends.result z) w small c.closed-c.ensures
+    ∙ ap (λ e. g.C.Part.closing parts.c e w) c.ends.ensures.placed)
     (as_passed (λ z. made.e ≡ beside wide (g.E.Part.closing parts.e (at E) z)) w small c.closed_beside-e.ensures)
     (as_passed (λ z. made.d ≡ g.D.Part.closing parts.d c.ends-2.result z) w small c.closed-d.ensures
     ∙ ap (λ e. g.D.Part.closing parts.d e w) c.ends-2.ensures.placed)
