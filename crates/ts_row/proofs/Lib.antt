@@ -9,3 +9,4 @@ pub mod Flat
 pub mod StartLaws
 pub mod Moves
 pub mod Resets
+pub mod SeenRows

@@ -1,5 +1,5 @@
 -- Where runs start.
-use Rattle.std.proofs.Common.{◌≡◌, ℕ, zero, suc, ◌<◌, ◌≤◌, inl, inr, Bool, true, false, cond, ◌&&◌, ◌||◌, int_eq, ℤ, pos, None, Some, List, [], length, get_or, set, replicate, refl, sym, ap, subst, ◌∙◌, arith}
+use Rattle.std.proofs.Common.{◌≡◌, ℕ, zero, suc, ◌<◌, ◌≤◌, ◌⊎◌, inl, inr, Bool, true, false, cond, ◌&&◌, ◌||◌, int_eq, ℤ, pos, None, Some, List, [], length, get_or, set, replicate, refl, sym, ap, subst, ◌∙◌, arith}
 use Rattle.std.proofs.Math.Dec.{eqb-suc-zero}
 use Rattle.std.proofs.lemmas.Bool.{and_parts}
 use Rattle.std.proofs.lemmas.Int.{ints}
@@ -13,16 +13,19 @@ use Rattle.ts_automaton.specs.Registers.{EachOf, rests}
 use Rattle.ts_automaton.specs.SpanRun.{one_hull}
 use Rattle.ts_automaton.specs.Typing.{each_is, is_constant, is_number_zero}
 use Rattle.ts_hull.specs.Hulls.{hull_of, none}
-use Rattle.ts_row.specs.Rows.{AreAll, IsColumn, IsHull, IsRow, hull_in, nothing, start_hull}
+use Rattle.ts_row.specs.Rows.{AreAll, IsColumn, IsHull, IsRow, hull_in, lanes_of, nothing, start_hull}
 use Rattle.ts_sweep.specs.declared.packed.Ends.{Ends}
 use Rattle.ts_sweep.specs.declared.packed.Name.{Name}
 use Rattle.ts_sweep.specs.declared.packed.PackedHull.{PackedHull}
 use Rattle.ts_sweep.specs.FrontLaws.{zero_is_small, one_is_small}
 use Rattle.ts_sweep.specs.Moves.{of_name, with_all}
-use Rattle.ts_sweep.specs.MoveLaws.{IsPackAt, all_packed, all_unpacked, by_names}
-use Rattle.ts_sweep.specs.Packed.{unpacked, is_wide, place, AreSome, IsPacked, IsPackOf, IsWithin}
+use Rattle.ts_sweep.specs.MoveLaws.{IsPackAt, all_kept, all_packed, all_unpacked, by_names, seen_at}
+use Rattle.ts_sweep.specs.Packed.{unpacked, place, AreSome, IsPacked, IsPackOf, IsWithin}
+use Rattle.ts_sweep.specs.Sides.{Sides, BothEnds, has_wide, kept_ends, lane_count, lanes_in, seen_hull, sides}
+use Rattle.ts_sweep.specs.SidesLaws.{alone, both_kept, ends_of_pack, kept_packs, narrow_or_both, none_by}
 use Rattle.ts_sweep.specs.PackedLaws.{none_unpacked}
-use Rattle.ts_sweep.proofs.HullLanes.{zeros_some}
+use Rattle.ts_sweep.proofs.HullLanes.{zeros_by}
+use Rattle.ts_sweep.proofs.SeenLaws.{none_seen}
 use Rattle.ts_sweep.proofs.Widths.{both_zero}
 
 -- a start constant that is a number is small
@@ -53,30 +56,38 @@ number_zero NegInf h = cc
 number_zero (Int x) h = let zero : x ≡ pos 0 = grind (arith, ints, h) in ap Int zero
 number_zero PosInf h = cc
 
-rest_packs : (wide : Bool) (p : ℕ) (e : Ext) (x : Ends) → IsPackOf x (one_span e) → (wide ≡ false → is_number_zero e ≡ true) →
-    IsPackAt (cond wide (Some p) None) x (one_span e)
-rest_packs true p e x pack rests = pack
-rest_packs false p e x pack rests = ap one_span (number_zero e (rests refl))
+rest_packs : (s : Sides) (wide : Bool) (p : ℕ) (e : Ext) (x : Ends) → (s ≡ BothEnds) ⊎ (wide ≡ false) → IsPackOf x (one_span e) →
+    (wide ≡ false → is_number_zero e ≡ true) → IsPackAt (cond wide (Some p) None) (kept_ends s x) (one_span e)
+rest_packs s true p e x alone pack rests =
+    both_kept s x (one_span e) (narrow_or_both s true alone refl) (ends_of_pack s x (one_span e) pack)
+rest_packs s false p e x alone pack rests = ap one_span (number_zero e (rests refl))
 
-pub start_packed : (n : ℕ) (h : PackedHull n) (start : EachOf Ext) (e : EachOf Ends) → 6 ≤ n → rests is_number_zero (is_wide n) start ≡ true →
-    h.at ≡ with_all n (replicate n (pos 0)) (of_name e) → IsPackOf e.c (one_span start.c) → IsPackOf e.e (one_span start.e) →
-    IsPackOf e.d (one_span start.d) → IsPackOf e.f (one_span start.f) → IsPackOf e.r (one_span start.r) → IsHull n (hull_of (one_hull start)) h
+pub start_packed : (n : ℕ) (h : PackedHull n) (start : EachOf Ext) (e : EachOf Ends) → 6 ≤ lane_count n →
+    rests is_number_zero (has_wide n) start ≡ true →
+    lanes_of n h ≡ with_all (lane_count n) (lanes_in n (replicate n (pos 0))) (all_kept (sides n) (of_name e)) → IsPackOf e.c (one_span start.c) →
+    IsPackOf e.e (one_span start.e) → IsPackOf e.d (one_span start.d) → IsPackOf e.f (one_span start.f) → IsPackOf e.r (one_span start.r) →
+    IsHull n (hull_of (one_hull start)) h
 start_packed n h start e big rest is pc pe pd pf pr =
-    let zeros = zeros_some n in
-    let value : Name → Span = λ k. one_span (of_name start k) in
-    let zero = both_zero (is_wide n) (is_number_zero start.e) (is_number_zero start.f) rest in
-    let packs : (k : Name) → IsPackAt (place n k) (of_name e k) (value k) =
-    by_names (λ k. IsPackAt (place n k) (of_name e k) (value k)) pc (rest_packs (is_wide n) 1 start.e e.e pe (λ w. (zero w).0)) pd
-    (rest_packs (is_wide n) 3 start.f e.f pf (λ w. (zero w).1)) pr in (
-      inr (subst (AreSome n) (sym is) (all_packed n (replicate n (pos 0)) (of_name e) value big zeros packs)),
-      ap unpacked is ∙ all_unpacked n (replicate n (pos 0)) (of_name e) value big zeros packs,
+    let s = sides n in
+    let m = lane_count n in
+    let zeros = zeros_by s n in
+    let kept : Name → Ends = all_kept s (of_name e) in
+    let value : Name → Span = λ k. seen_at s k (one_span (of_name start k)) in
+    let zero = both_zero (has_wide n) (is_number_zero start.e) (is_number_zero start.f) rest in
+    let packs : (k : Name) → IsPackAt (place m k) (kept k) (value k) =
+    by_names (λ k. IsPackAt (place m k) (kept k) (value k)) (kept_packs s e.c _ (ends_of_pack s e.c _ pc))
+    (rest_packs s (has_wide n) 1 start.e e.e (alone n) pe (λ w. (zero w).0)) (kept_packs s e.d _ (ends_of_pack s e.d _ pd))
+    (rest_packs s (has_wide n) 3 start.f e.f (alone n) pf (λ w. (zero w).1)) (kept_packs s e.r _ (ends_of_pack s e.r _ pr)) in (
+      inr (subst (AreSome m) (sym is) (all_packed m (lanes_in n (replicate n (pos 0))) kept value big zeros packs)),
+      ap unpacked is ∙ all_unpacked m (lanes_in n (replicate n (pos 0))) kept value big zeros packs,
     )
 
-column_packed : (n k : ℕ) (h : PackedHull n) (column : List (PackedHull n)) → IsPacked n h.at → AreAll n h k column → IsColumn n k column
-column_packed n k h column packed all = (all.0, λ i lt. subst (λ z. IsPacked n z.at) (sym (all.1 i lt)) packed)
+column_packed : (n k : ℕ) (h : PackedHull n) (column : List (PackedHull n)) → IsPacked (lane_count n) (lanes_of n h) → AreAll n h k column →
+    IsColumn n k column
+column_packed n k h column packed all = (all.0, λ i lt. subst (λ z. IsPacked (lane_count n) (lanes_of n z)) (sym (all.1 i lt)) packed)
 
 -- the start registers in the first column, and nothing in the others
-module _ (n s k : ℕ) (b : Body) (row : List (List (PackedHull n))) (h : PackedHull n) (column : List (PackedHull n)) (new : List (List (PackedHull n))) (big : 6 ≤ n) (some : 1 ≤ s) (len : length row ≡ s) (nothings : (q : ℕ) → q < s → AreAll n (nothing n) k (get_or row q [])) (set_is : new ≡ set row 0 column) (all : AreAll n h k column) (start : IsHull n (hull_of (one_hull b.start)) h) where
+module _ (n s k : ℕ) (b : Body) (row : List (List (PackedHull n))) (h : PackedHull n) (column : List (PackedHull n)) (new : List (List (PackedHull n))) (big : 6 ≤ lane_count n) (some : 1 ≤ s) (len : length row ≡ s) (nothings : (q : ℕ) → q < s → AreAll n (nothing n) k (get_or row q [])) (set_is : new ≡ set row 0 column) (all : AreAll n h k column) (start : IsHull n (hull_of (one_hull b.start)) h) where
   first_is : get_or new 0 [] ≡ column
   first_is = ap (λ z. get_or z 0 []) set_is ∙ get_or-set_same row 0 column [] (omega (arith, some, len))
 
@@ -86,15 +97,16 @@ module _ (n s k : ℕ) (b : Body) (row : List (List (PackedHull n))) (h : Packed
   columns : (q : ℕ) → q < s → IsColumn n k (get_or new q [])
   columns zero lt = subst (IsColumn n k) (sym first_is) (column_packed n k h column start.0 all)
   columns (suc q) lt =
-      subst (IsColumn n k) (sym (other_is q)) (column_packed n k (nothing n) (get_or row (suc q) []) (inl refl) (nothings (suc q) lt))
+      subst (IsColumn n k) (sym (other_is q)) (column_packed n k (nothing n) (get_or row (suc q) []) (inl (none_by (sides n) n)) (nothings (suc q) lt))
 
-  hulls : (t j : ℕ) → t < s → j < k → hull_in n new t j ≡ start_hull b t
+  hulls : (t j : ℕ) → t < s → j < k → hull_in n new t j ≡ seen_hull (sides n) (start_hull b t)
   unfolding start_hull
   hulls zero j lt less =
-      ap (λ z. unpacked (get_or z j (nothing n)).at) first_is ∙ ap (λ z. unpacked z.at) (all.1 j less) ∙ start.1
+      ap (λ z. unpacked (lanes_of n (get_or z j (nothing n)))) first_is ∙ ap (λ z. unpacked (lanes_of n z)) (all.1 j less) ∙ start.1
   hulls (suc t) j lt less =
-      ap (λ z. unpacked (get_or z j (nothing n)).at) (other_is t) ∙ ap (λ z. unpacked z.at) ((nothings (suc t) lt).1 j less) ∙ none_unpacked n big
-      ∙ ap (λ z. cond z (hull_of (one_hull b.start)) none) (sym (eqb-suc-zero t))
+      ap (λ z. unpacked (lanes_of n (get_or z j (nothing n)))) (other_is t) ∙ ap (λ z. unpacked (lanes_of n z)) ((nothings (suc t) lt).1 j less)
+      ∙ ap unpacked (none_by (sides n) n) ∙ none_unpacked (lane_count n) big ∙ sym (none_seen (sides n))
+      ∙ ap (λ z. seen_hull (sides n) (cond z (hull_of (one_hull b.start)) none)) (sym (eqb-suc-zero t))
 
-  pub started : IsRow n s k new × ((t j : ℕ) → t < s → j < k → hull_in n new t j ≡ start_hull b t)
+  pub started : IsRow n s k new × ((t j : ℕ) → t < s → j < k → hull_in n new t j ≡ seen_hull (sides n) (start_hull b t))
   started = (record { len = ap length set_is ∙ length-set row 0 column ∙ len; columns = columns }, hulls)

@@ -9,12 +9,15 @@ use Rattle.ts_hull.specs.Sweeps.{total as hull_total}
 use Rattle.ts_hull.proofs.SpanHulls.{both_assoc}
 use Rattle.ts_row.specs.declared.between.Between.{Between}
 use Rattle.ts_row.specs.declared.between.On.{On}
-use Rattle.ts_row.specs.Rows.{nothing, lanes_of, AreAll, IsColumn, IsRow, hull_in, state_gives, HasTaken}
+use Rattle.ts_row.specs.Rows.{nothing, lanes_of, AreAll, IsColumn, IsRow, hull_in, seen_gives, state_gives, HasTaken}
 use Rattle.ts_row.specs.Takings.{count_in, value_in, HasMoved, taken_to}
 use Rattle.ts_sweep.specs.declared.packed.PackedHull.{PackedHull}
 use Rattle.ts_sweep.specs.Columns.{gives, hull_at}
 use Rattle.ts_sweep.specs.PackedLaws.{packed_takes_none, none_unpacked}
 use Rattle.ts_sweep.specs.Packed.{unpacked}
+use Rattle.ts_sweep.specs.Sides.{lane_count, seen_hull, sides}
+use Rattle.ts_sweep.specs.SidesLaws.{none_by}
+use Rattle.ts_sweep.proofs.SeenLaws.{none_seen, seen_total}
 
 -- one after the other
 pub taken_both : (n s k : ℕ) (w : ℕ → ℤ) (f g : ℤ → ℕ → Hull) (a b c : List (List (PackedHull n))) → HasTaken n s k w f a b → HasTaken n s k w g b c →
@@ -44,29 +47,30 @@ module _ (n s k r : ℕ) (old : List (List (PackedHull n))) (column : List (Pack
       go q lt true e = subst (λ z. IsColumn n k (get_or new z [])) (eqb-true r q e) (subst (IsColumn n k) (sym here_is) packed)
       go q lt false e = subst (IsColumn n k) (sym (other_is q (eqb-false r q e))) (row.columns q lt)
 
-  pub move_taken : (t : Between n) (on : On) (m : Move) → 6 ≤ n → m.next ≡ r → count_in t.next_values ≡ k →
+  pub move_taken : (t : Between n) (on : On) (m : Move) → 6 ≤ lane_count n → m.next ≡ r → count_in t.next_values ≡ k →
       HasMoved n t on m (get_or old r []) column → HasTaken n s k (value_in t.next_values) (taken_to n t on m) old new
   move_taken t on m big leads counted moved u j lt less = go (nat_eq m.next u) refl
     where
       x : Hull
       x = gives m on.letter on.twin (count_in t.values) (value_in t.values) (hull_at (lanes_of n) (nothing n) t.before.now) (value_in t.next_values j)
 
-      go : (b : Bool) → nat_eq m.next u ≡ b → hull_in n new u j ≡ hull_of_both (hull_in n old u j) (cond (nat_eq m.next u) x none)
+      go : (b : Bool) → nat_eq m.next u ≡ b → hull_in n new u j ≡ hull_of_both (hull_in n old u j) (seen_hull (sides n) (cond (nat_eq m.next u) x none))
       go true e =
           let to : r ≡ u = sym leads ∙ eqb-true m.next u e in
-          subst (λ z. hull_in n new z j ≡ hull_of_both (hull_in n old z j) x) to
-          (ap (λ z. unpacked (get_or z j (nothing n)).at) here_is ∙ moved j (omega (arith, less, counted)))
-          ∙ ap (λ b. hull_of_both (hull_in n old u j) (cond b x none)) (sym e)
+          subst (λ z. hull_in n new z j ≡ hull_of_both (hull_in n old z j) (seen_hull (sides n) x)) to
+          (ap (λ z. unpacked (lanes_of n (get_or z j (nothing n)))) here_is ∙ moved j (omega (arith, less, counted)))
+          ∙ ap (λ b. hull_of_both (hull_in n old u j) (seen_hull (sides n) (cond b x none))) (sym e)
       go false e =
           let apart : r ≡ u → ⊥ = λ same. eqb-false m.next u e (leads ∙ same) in
-          ap (λ z. unpacked (get_or z j (nothing n)).at) (other_is u apart)
-          ∙ sym (packed_takes_none n (get_or (get_or old u []) j (nothing n)).at big ((row.columns u lt).1 j less))
-          ∙ ap (λ b. hull_of_both (hull_in n old u j) (cond b x none)) (sym e)
+          ap (λ z. unpacked (lanes_of n (get_or z j (nothing n)))) (other_is u apart)
+          ∙ sym (packed_takes_none (lane_count n) (lanes_of n (get_or (get_or old u []) j (nothing n))) big ((row.columns u lt).1 j less))
+          ∙ ap (hull_of_both (hull_in n old u j)) (sym (none_seen (sides n)))
+          ∙ ap (λ b. hull_of_both (hull_in n old u j) (seen_hull (sides n) (cond b x none))) (sym e)
 
 -- the states so far
 pub record IsFilled (n : ℕ) (b : Body) (count : ℕ) (v : ℕ → ℤ) (h : ℕ → ℕ → Hull) (k : ℕ) (w : ℕ → ℤ) (q : ℕ) (next : List (List (PackedHull n))) : Type 0 where
   pub row : IsRow n (length b.states) k next
-  pub hulls : (t j : ℕ) → t < length b.states → j < k → hull_in n next t j ≡ hull_total q (λ p. state_gives b p count v (h p) (w j) t)
+  pub hulls : (t j : ℕ) → t < length b.states → j < k → hull_in n next t j ≡ hull_total q (λ p. seen_gives n b p count v (h p) (w j) t)
 
 empty_total : (f : ℕ → Hull) → none ≡ hull_total 0 f
 unfolding hull_total
@@ -76,18 +80,19 @@ more_total : (q : ℕ) (f : ℕ → Hull) → hull_of_both (hull_total q f) (f q
 unfolding hull_total
 more_total q f = refl
 
-pub filled_none : (n : ℕ) (b : Body) (count : ℕ) (v : ℕ → ℤ) (h : ℕ → ℕ → Hull) (k : ℕ) (w : ℕ → ℤ) (next : List (List (PackedHull n))) → 6 ≤ n →
+pub filled_none : (n : ℕ) (b : Body) (count : ℕ) (v : ℕ → ℤ) (h : ℕ → ℕ → Hull) (k : ℕ) (w : ℕ → ℤ) (next : List (List (PackedHull n))) → 6 ≤ lane_count n →
     length next ≡ length b.states → ((q : ℕ) → q < length b.states → AreAll n (nothing n) k (get_or next q [])) → IsFilled n b count v h k w 0 next
 filled_none n b count v h k w next big len each = record {
   row = record {
     len = len;
-    columns = λ q lt. ((each q lt).0, λ i less. inl (ap (λ z. z.at) ((each q lt).1 i less)));
+    columns = λ q lt. ((each q lt).0, λ i less. inl (ap (lanes_of n) ((each q lt).1 i less) ∙ none_by (sides n) n));
   };
-  hulls = λ t j lt less. ap (λ z. unpacked z.at) ((each t lt).1 j less) ∙ none_unpacked n big ∙ empty_total _;
+  hulls = λ t j lt less. ap (λ z. unpacked (lanes_of n z)) ((each t lt).1 j less) ∙ ap unpacked (none_by (sides n) n)
+      ∙ none_unpacked (lane_count n) big ∙ empty_total _;
 }
 
 pub filled_more : (n : ℕ) (b : Body) (count : ℕ) (v : ℕ → ℤ) (h : ℕ → ℕ → Hull) (k : ℕ) (w : ℕ → ℤ) (q : ℕ) (next next' : List (List (PackedHull n))) →
-    IsFilled n b count v h k w q next → IsRow n (length next) k next' → HasTaken n (length next) k w (state_gives b q count v (h q)) next next' →
+    IsFilled n b count v h k w q next → IsRow n (length next) k next' → HasTaken n (length next) k w (seen_gives n b q count v (h q)) next next' →
     IsFilled n b count v h k w (q + 1) next'
 filled_more n b count v h k w q next next' filled row taken =
     let long = filled.row.len in
@@ -95,18 +100,20 @@ filled_more n b count v h k w q next next' filled row taken =
     record {
       row = subst (λ z. IsRow n z k next') long row;
       hulls = λ t j lt less. taken t j (omega (arith, lt, long)) less
-          ∙ ap (λ z. hull_of_both z (state_gives b q count v (h q) (w j) t)) (filled.hulls t j lt less)
-          ∙ more_total q (λ p. state_gives b p count v (h p) (w j) t)
-          ∙ ap (λ z. hull_total z (λ p. state_gives b p count v (h p) (w j) t)) more;
+          ∙ ap (λ z. hull_of_both z (seen_gives n b q count v (h q) (w j) t)) (filled.hulls t j lt less)
+          ∙ more_total q (λ p. seen_gives n b p count v (h p) (w j) t)
+          ∙ ap (λ z. hull_total z (λ p. seen_gives n b p count v (h p) (w j) t)) more;
     }
 
 pub filled_all : (n : ℕ) (b : Body) (count : ℕ) (v : ℕ → ℤ) (h : ℕ → ℕ → Hull) (k : ℕ) (w : ℕ → ℤ) (q : ℕ) (next : List (List (PackedHull n))) →
     IsFilled n b count v h k w q next → q ≡ length b.states →
     IsRow n (length b.states) k next
-    × ((t j : ℕ) → t < length b.states → j < k → hull_in n next t j ≡ hull_total (length b.states) (λ p. state_gives b p count v (h p) (w j) t))
+    × ((t j : ℕ) → t < length b.states → j < k → hull_in n next t j
+    ≡ seen_hull (sides n) (hull_total (length b.states) (λ p. state_gives b p count v (h p) (w j) t)))
 filled_all n b count v h k w q next filled same = (
   filled.row,
-  λ t j lt less. filled.hulls t j lt less ∙ ap (λ z. hull_total z (λ p. state_gives b p count v (h p) (w j) t)) same,
+  λ t j lt less. filled.hulls t j lt less ∙ ap (λ z. hull_total z (λ p. seen_gives n b p count v (h p) (w j) t)) same
+      ∙ sym (seen_total (sides n) (length b.states) (λ p. state_gives b p count v (h p) (w j) t)),
 )
 
 -- what is said of the states of a row that took in a move holds of as many states

@@ -13,18 +13,19 @@ use Rattle.ts_sweep.specs.declared.packed.PackedHull.{PackedHull}
 use Rattle.ts_sweep.specs.Columns.{gives}
 use Rattle.ts_sweep.specs.Lanes.{no_lanes}
 use Rattle.ts_sweep.specs.Packed.{unpacked, ArePacked, IsPacked}
+use Rattle.ts_sweep.specs.Sides.{lane_count, lanes_in, seen_hull, sides}
 
 -- a hull of nothing
 abbrev pub nothing : (n : ℕ) → PackedHull n
 nothing n = record { at = no_lanes n }
 
--- the lanes of a hull
+-- the lanes of a hull, with both ends
 abbrev pub lanes_of : (n : ℕ) → PackedHull n → List ℤ
-lanes_of n h = h.at
+lanes_of n h = lanes_in n h.at
 
--- a packed hull that stands for h
+-- a packed hull that stands for what is seen of h
 abbrev pub IsHull : (n : ℕ) → Hull → PackedHull n → Type 0
-IsHull n h packed = IsPacked n packed.at × (unpacked packed.at ≡ h)
+IsHull n h packed = IsPacked (lane_count n) (lanes_of n packed) × (unpacked (lanes_of n packed) ≡ seen_hull (sides n) h)
 
 -- one hull so many times
 abbrev pub AreAll : (n : ℕ) → PackedHull n → (count : ℕ) → List (PackedHull n) → Type 0
@@ -32,7 +33,7 @@ AreAll n hull count hulls = (length hulls ≡ count) × ((i : ℕ) → i < count
 
 -- so many packed hulls
 abbrev pub IsColumn : (n count : ℕ) → List (PackedHull n) → Type 0
-IsColumn n count hulls = ArePacked (lanes_of n) (nothing n) n count hulls
+IsColumn n count hulls = ArePacked (lanes_of n) (nothing n) (lane_count n) count hulls
 
 -- a column of so many packed hulls for each of so many states
 pub record IsRow (n states count : ℕ) (row : List (List (PackedHull n))) : Type 0 where
@@ -41,7 +42,7 @@ pub record IsRow (n states count : ℕ) (row : List (List (PackedHull n))) : Typ
 
 -- the hull of state q at place i
 abbrev pub hull_in : (n : ℕ) → List (List (PackedHull n)) → ℕ → ℕ → Hull
-hull_in n row q i = unpacked (get_or (get_or row q []) i (nothing n)).at
+hull_in n row q i = unpacked (lanes_of n (get_or (get_or row q []) i (nothing n)))
 
 -- all of them in a list, value by value, for each a hull of each state
 unfoldable pub flat_row : (n states count : ℕ) → List (List (PackedHull n)) → List Hull
@@ -63,6 +64,10 @@ state_gives b q n v h w t =
     (hull_of_both (gives_to (move_at b q Less) Less false n v h w t)
     (gives_to (move_at b q Equal) Equal false n v h w t))
     (gives_to (move_at b q Greater) Greater false n v h w t)
+
+-- what is seen of it
+abbrev pub seen_gives : (n : ℕ) → Body → ℕ → ℕ → (ℕ → ℤ) → (ℕ → Hull) → ℤ → ℕ → Hull
+seen_gives n b q k v h w t = seen_hull (sides n) (state_gives b q k v h w t)
 
 -- the hull of state t of the next value w: of what all states give
 abbrev pub next_hull : Body → ℕ → (ℕ → ℤ) → (ℕ → ℕ → Hull) → ℤ → ℕ → Hull

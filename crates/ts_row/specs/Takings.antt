@@ -12,10 +12,9 @@ use Rattle.ts_row.specs.Plans.{IsShapeOf}
 use Rattle.ts_row.specs.Rows.{gives_to, lanes_of, nothing, IsColumn}
 use Rattle.ts_sweep.specs.declared.packed.PackedHull.{PackedHull}
 use Rattle.ts_sweep.specs.Columns.{IsMoved, hull_at}
-use Rattle.ts_sweep.specs.Lanes.{greater_of}
+use Rattle.ts_sweep.specs.Covers.{IsCoverOf}
 use Rattle.ts_sweep.specs.Moves.{of_width}
-use Rattle.ts_sweep.specs.Packed.{is_wide}
-use Rattle.ts_sweep.specs.Sweeps.{total}
+use Rattle.ts_sweep.specs.Sides.{has_wide, seen_hull, sides}
 
 -- how many values a cell has, and the value at a place
 abbrev pub count_in : Cell → ℕ
@@ -24,20 +23,15 @@ count_in c = length c.values.now
 abbrev pub value_in : Cell → ℕ → ℤ
 value_in c i = get_or c.values.now i (pos 0)
 
--- the join of two hulls in packed form
-abbrev pub both_hulls : (n : ℕ) → PackedHull n → PackedHull n → PackedHull n
-both_hulls n a b = record { at = greater_of a.at b.at }
-
--- there is a packed hull for each value before, and their join is the cover
+-- there is a packed hull for each value before, and each is bounded by the cover
 pub record IsCovered (n : ℕ) (t : Between n) : Type 0 where
   pub packed : IsColumn n (count_in t.values) t.before.now
-  pub cover : t.cover.now ≡ total (both_hulls n) (nothing n) (λ i. true) (λ i. get_or t.before.now i (nothing n))
-      (count_in t.values)
+  pub cover : IsCoverOf (sides n) (lanes_of n) (nothing n) t.cover.now (count_in t.values) t.before.now
 
 -- a column of the next cell has taken in a move, or any move with these split expressions, or of this shape
 abbrev pub HasMoved : (n : ℕ) → Between n → On → Move → List (PackedHull n) → List (PackedHull n) → Type 0
 HasMoved n t on m old new =
-    IsMoved (lanes_of n) (nothing n) m on.letter on.twin (count_in t.values) (value_in t.values) t.before.now
+    IsMoved (sides n) (lanes_of n) (nothing n) m on.letter on.twin (count_in t.values) (value_in t.values) t.before.now
     (count_in t.next_values) (value_in t.next_values) old new
 
 abbrev pub MovesBy : (n : ℕ) → Between n → On → Cut → List (PackedHull n) → List (PackedHull n) → Type 0
@@ -45,16 +39,16 @@ MovesBy n t on k old new = (m : Move) → cut_of m ≡ k → HasMoved n t on m o
 
 -- with these where registers have lanes
 abbrev pub MovesAs : (n : ℕ) → Between n → On → Cut → List (PackedHull n) → List (PackedHull n) → Type 0
-MovesAs n t on k old new = MovesBy n t on (of_width (is_wide n) k) old new
+MovesAs n t on k old new = MovesBy n t on (of_width (has_wide n) k) old new
 
 abbrev pub IsShapeTaken : (n : ℕ) → Between n → On → Shape → List (PackedHull n) → List (PackedHull n) → Type 0
-IsShapeTaken n t on s old new = (m : Move) → IsShapeOf (is_wide n) s (cut_of m) → HasMoved n t on m old new
+IsShapeTaken n t on s old new = (m : Move) → IsShapeOf (has_wide n) s (cut_of m) → HasMoved n t on m old new
 
--- what a move gives to state u of the next value w
+-- what is seen of what a move gives to state u of the next value w
 abbrev pub taken_to : (n : ℕ) → Between n → On → Move → ℤ → ℕ → Hull
 taken_to n t on m w u =
-    gives_to m on.letter on.twin (count_in t.values) (value_in t.values)
-    (hull_at (lanes_of n) (nothing n) t.before.now) w u
+    seen_hull (sides n) (gives_to m on.letter on.twin (count_in t.values) (value_in t.values)
+    (hull_at (lanes_of n) (nothing n) t.before.now) w u)
 
 -- what two moves give to it
 abbrev pub two_taken_to : (n : ℕ) → Between n → On → Move → On → Move → ℤ → ℕ → Hull

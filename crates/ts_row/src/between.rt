@@ -2,9 +2,11 @@
 
 ghost use Rattle.std.specs.Prelude.{◌≡◌, ◌≤◌, false};
 ghost use Rattle.ts_base.specs.declared.letter.Letter.TheVariants.{Equal};
+ghost use Rattle.ts_sweep.specs.Sides.{lane_count};
 
 use crate::cell::Cell;
 use ts_base::Letter;
+use ts_sweep::cover::Cover;
 use ts_sweep::packed::PackedHull;
 
 /// A letter on which a move is taken in, and on `=` too where it has a twin.
@@ -20,8 +22,8 @@ pub(crate) struct On {
 pub(crate) struct Between<'a, const N: usize> {
     pub(crate) values: Cell<'a>,
     pub(crate) before: &'a [PackedHull<N>],
-    pub(crate) cover: &'a PackedHull<N>,
+    pub(crate) cover: &'a Cover,
     pub(crate) next_values: Cell<'a>,
-    ghost registers: { 6 ≤ N },
+    ghost registers: { 6 ≤ lane_count N },
     ghost lanes: { N ≤ 64 },
 }

@@ -12,6 +12,7 @@ ghost use Rattle.ts_automaton.specs.declared.expr.Operator.TheVariants.{Fold};
 ghost use Rattle.ts_hull.specs.Cuts.{cut_of, is_front_move};
 ghost use Rattle.ts_hull.specs.Sealed.{move_at};
 ghost use Rattle.ts_row.specs.declared.plan.Equals.TheVariants.{WithGreater, WithLess};
+ghost use Rattle.ts_sweep.specs.Fronts.{IsNarrowMove};
 ghost use Rattle.ts_row.specs.Plans.{
   IsPlanOf,
   IsShapeOf,
@@ -486,6 +487,7 @@ pub(crate) fn turn(a: &Automaton, q: u8, l: Letter) -> &Turn
     ensures value { move_of result.now ≡ move_at a.now q l }
     ensures exists { result.now.next < length a.now.states }
     ensures rests { rests is_zero a.now.wide (move_of result.now).to ≡ true }
+    ensures narrow { a.now.wide ≡ false → IsNarrowMove (move_of result.now) }
 {
     turn_on(a.state(q), l)
 }

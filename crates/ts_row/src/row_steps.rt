@@ -8,11 +8,11 @@ ghost use Rattle.ts_base.specs.declared.letter.Letter.TheVariants.{Equal};
 ghost use Rattle.ts_hull.specs.Cuts.{cut_of};
 ghost use Rattle.ts_hull.specs.Sealed.{move_at};
 ghost use Rattle.ts_row.specs.Plans.{IsPlanOf, IsShapeOf, IsStatePlan};
-ghost use Rattle.ts_row.specs.Rows.{HasTaken, IsColumn, IsRow, hull_in, lanes_of, next_hull, nothing, state_gives};
-ghost use Rattle.ts_row.specs.Takings.{HasMoved, IsCovered, both_hulls, count_in, taken_to, two_taken_to, value_in};
+ghost use Rattle.ts_row.specs.Rows.{HasTaken, IsColumn, IsRow, hull_in, lanes_of, next_hull, nothing, seen_gives};
+ghost use Rattle.ts_row.specs.Takings.{HasMoved, IsCovered, count_in, taken_to, two_taken_to, value_in};
 ghost use Rattle.ts_sweep.specs.Columns.{hull_at};
-ghost use Rattle.ts_sweep.specs.Packed.{is_wide};
-ghost use Rattle.ts_sweep.specs.Sweeps.{total};
+ghost use Rattle.ts_sweep.specs.Fronts.{IsMoveFor};
+ghost use Rattle.ts_sweep.specs.Sides.{has_wide, lane_count, seen_hull, sides};
 
 use crate::between::{Between, On};
 use crate::cell::Cell;
@@ -23,8 +23,8 @@ use std::alloc::Global;
 use ts_automaton::{Automaton, Turn};
 use ts_base::{Letter, Memory};
 use ts_sweep::column::Dense;
-use ts_sweep::cover::cover;
-use ts_sweep::packed::{Packed, PackedHull};
+use ts_sweep::cover::cover_of;
+use ts_sweep::packed::PackedHull;
 use ts_sweep::pairs::take_pairs;
 use ts_sweep::swept::take_swept;
 
@@ -44,14 +44,15 @@ fn planned_move<'a, const N: usize>(
     twin: bool,
     shape: Shape,
 ) -> Planned<'a>
-    requires width { a.now.wide ≡ is_wide N }
+    requires width { a.now.wide ≡ has_wide N }
     requires state { q < length a.now.states }
     requires alone { letter ≡ Equal → twin ≡ false }
     requires shape { IsShapeOf a.now.wide shape (cut_of (move_at a.now q letter)) }
     ensures value { move_of result.turn.now ≡ move_at a.now q letter }
     ensures leads { result.turn.now.next < length a.now.states }
-    ensures rests { rests is_zero (is_wide N) (move_of result.turn.now).to ≡ true }
-    ensures shape { IsShapeOf (is_wide N) result.shape (cut_of (move_of result.turn.now)) }
+    ensures rests { rests is_zero (has_wide N) (move_of result.turn.now).to ≡ true }
+    ensures suits { IsMoveFor (sides N) (move_of result.turn.now) }
+    ensures shape { IsShapeOf (has_wide N) result.shape (cut_of (move_of result.turn.now)) }
     ensures letter { result.on.letter ≡ letter }
     ensures twin { result.on.twin ≡ twin }
 {
@@ -65,8 +66,9 @@ fn planned_move<'a, const N: usize>(
 /// Takes a move into a column: by the sweep of its shape, or else by that of its expressions, or else by pairs.
 fn take_turn<const N: usize>(m: Planned<'_>, t: &Between<'_, N>, next: &mut [PackedHull<N>])
     requires covered { IsCovered N t.now }
-    requires width { rests is_zero (is_wide N) (move_of m.turn.now).to ≡ true }
-    requires shape { IsShapeOf (is_wide N) m.shape (cut_of (move_of m.turn.now)) }
+    requires width { rests is_zero (has_wide N) (move_of m.turn.now).to ≡ true }
+    requires suits { IsMoveFor (sides N) (move_of m.turn.now) }
+    requires shape { IsShapeOf (has_wide N) m.shape (cut_of (move_of m.turn.now)) }
     requires next_packed { IsColumn N (count_in t.now.next_values) next.old }
     ensures packed { IsColumn N (count_in t.now.next_values) next.new }
     ensures moved { HasMoved N t.now m.entry.on (move_of m.entry.turn.now) next.old next.new }
@@ -78,7 +80,7 @@ fn take_turn<const N: usize>(m: Planned<'_>, t: &Between<'_, N>, next: &mut [Pac
         m.turn,
         m.on.letter,
         m.on.twin,
-        *t.cover,
+        t.cover,
         t.values,
         t.before,
         t.next_values,
@@ -100,8 +102,9 @@ fn take_turn<const N: usize>(m: Planned<'_>, t: &Between<'_, N>, next: &mut [Pac
 /// Takes a move into the row, at the state that it leads to.
 fn take_move<const N: usize>(m: Planned<'_>, t: &Between<'_, N>, next: &mut PackedRow<N>)
     requires covered { IsCovered N t.now }
-    requires width { rests is_zero (is_wide N) (move_of m.turn.now).to ≡ true }
-    requires shape { IsShapeOf (is_wide N) m.shape (cut_of (move_of m.turn.now)) }
+    requires width { rests is_zero (has_wide N) (move_of m.turn.now).to ≡ true }
+    requires suits { IsMoveFor (sides N) (move_of m.turn.now) }
+    requires shape { IsShapeOf (has_wide N) m.shape (cut_of (move_of m.turn.now)) }
     requires leads { m.turn.now.next < length next.old }
     requires row { IsRow N (length next.old) (count_in t.now.next_values) next.old }
     ensures row { IsRow N (length next.old) (count_in t.now.next_values) next.new }
@@ -119,10 +122,12 @@ fn take_two<const N: usize>(
     next: &mut PackedRow<N>,
 )
     requires covered { IsCovered N t.now }
-    requires width { rests is_zero (is_wide N) (move_of m.turn.now).to ≡ true }
-    requires shape { IsShapeOf (is_wide N) m.shape (cut_of (move_of m.turn.now)) }
-    requires other_width { rests is_zero (is_wide N) (move_of k.turn.now).to ≡ true }
-    requires other_shape { IsShapeOf (is_wide N) k.shape (cut_of (move_of k.turn.now)) }
+    requires width { rests is_zero (has_wide N) (move_of m.turn.now).to ≡ true }
+    requires suits { IsMoveFor (sides N) (move_of m.turn.now) }
+    requires shape { IsShapeOf (has_wide N) m.shape (cut_of (move_of m.turn.now)) }
+    requires other_width { rests is_zero (has_wide N) (move_of k.turn.now).to ≡ true }
+    requires other_suits { IsMoveFor (sides N) (move_of k.turn.now) }
+    requires other_shape { IsShapeOf (has_wide N) k.shape (cut_of (move_of k.turn.now)) }
     requires leads { m.turn.now.next < length next.old }
     requires other_leads { k.turn.now.next < length next.old }
     requires row { IsRow N (length next.old) (count_in t.now.next_values) next.old }
@@ -144,7 +149,7 @@ fn take_moves<const N: usize>(
     t: &Between<'_, N>,
     next: &mut PackedRow<N>,
 )
-    requires width { a.now.wide ≡ is_wide N }
+    requires width { a.now.wide ≡ has_wide N }
     requires state { q < length a.now.states }
     requires plan { IsStatePlan a.now q plan }
     requires covered { IsCovered N t.now }
@@ -152,7 +157,7 @@ fn take_moves<const N: usize>(
     requires row { IsRow N (length next.old) (count_in t.now.next_values) next.old }
     ensures row { IsRow N (length next.old) (count_in t.now.next_values) next.new }
     ensures taken { HasTaken N (length next.old) (count_in t.now.next_values) (value_in t.now.next_values)
-        (state_gives a.now q (count_in t.now.values) (value_in t.now.values)
+        (seen_gives N a.now q (count_in t.now.values) (value_in t.now.values)
         (hull_at (lanes_of N) (nothing N) t.now.before.now))
         next.old next.new }
 {
@@ -177,14 +182,6 @@ fn take_moves<const N: usize>(
     }
 }
 
-/// The join of all hulls of a column.
-fn cover_of<const N: usize>(column: &[PackedHull<N>], count: usize) -> PackedHull<N>
-    requires { length column.now ≡ count }
-    ensures { result ≡ total (both_hulls N) (nothing N) (λ i. true) (λ i. get_or column.now i (nothing N)) count }
-{
-    cover::<PackedHull<N>, Dense>(Dense, column, count)
-}
-
 /// Takes all moves of a state into the row, if any series reaches the state.
 fn take_state<const N: usize>(
     a: &Automaton,
@@ -195,8 +192,8 @@ fn take_state<const N: usize>(
     next_values: Cell<'_>,
     next: &mut PackedRow<N>,
 )
-    requires width { a.now.wide ≡ is_wide N }
-    requires registers { 6 ≤ N }
+    requires width { a.now.wide ≡ has_wide N }
+    requires registers { 6 ≤ lane_count N }
     requires lanes { N ≤ 64 }
     requires state { q < length a.now.states }
     requires plan { IsStatePlan a.now q plan }
@@ -205,11 +202,11 @@ fn take_state<const N: usize>(
     requires row { IsRow N (length next.old) (count_in next_values) next.old }
     ensures row { IsRow N (length next.old) (count_in next_values.entry) next.new }
     ensures taken { HasTaken N (length next.old) (count_in next_values.entry) (value_in next_values.entry)
-        (state_gives a.now q (count_in values.entry) (value_in values.entry)
+        (seen_gives N a.now q (count_in values.entry) (value_in values.entry)
         (hull_at (lanes_of N) (nothing N) column.now)) next.old next.new }
 {
-    let cover = cover_of(column, values.values.len());
-    if !cover.is_some() {
+    let cover = cover_of::<N, Dense>(Dense, column, values.values.len());
+    if !cover.some {
         return;
     }
     let t = Between {
@@ -222,7 +219,7 @@ fn take_state<const N: usize>(
 }
 
 /// The row of a cell, made from the row of the cell before in the memory of `next`: the hull of each state and value is
-/// that of what all states and values before give. After `Memory` the row `next` holds whatever hulls.
+/// what is seen of what all states and values before give. After `Memory` the row `next` holds whatever hulls.
 pub fn next_row<const N: usize>(
     alloc: Global,
     a: &Automaton,
@@ -232,15 +229,15 @@ pub fn next_row<const N: usize>(
     next_values: Cell<'_>,
     next: &mut PackedRow<N>,
 ) -> Result<(), Memory>
-    requires width { a.now.wide ≡ is_wide N }
-    requires registers { 6 ≤ N }
+    requires width { a.now.wide ≡ has_wide N }
+    requires registers { 6 ≤ lane_count N }
     requires lanes { N ≤ 64 }
     requires plan { IsPlanOf a.now plan.now }
     requires row { IsRow N (length a.now.states) (count_in values) before.now }
     ensures { IfOk result (λ u. IsRow N (length a.now.states) (count_in next_values.entry) next.new
         × ((t j : ℕ) → t < length a.now.states → j < count_in next_values.entry → hull_in N next.new t j
-        ≡ next_hull a.now (count_in values.entry) (value_in values.entry) (hull_in N before.now)
-        (value_in next_values.entry j) t)) }
+        ≡ seen_hull (sides N) (next_hull a.now (count_in values.entry) (value_in values.entry) (hull_in N before.now)
+        (value_in next_values.entry j) t))) }
 {
     next.reset(alloc, a.states(), next_values.values.len())?;
     for q in 0..a.states() {

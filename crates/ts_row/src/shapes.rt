@@ -21,7 +21,7 @@ ghost use Rattle.ts_row.specs.Plans.{
 };
 ghost use Rattle.ts_row.specs.Rows.{IsColumn};
 ghost use Rattle.ts_row.specs.Takings.{IsCovered, IsShapeTaken, MovesAs, MovesBy, count_in};
-ghost use Rattle.ts_sweep.specs.Packed.{is_wide};
+ghost use Rattle.ts_sweep.specs.Sides.{has_wide};
 
 use crate::between::{Between, On};
 use crate::cell::Cell;
@@ -52,7 +52,7 @@ pub(crate) fn sweep_as<const N: usize, F: Moves<PackedHull<N>>>(
         by,
         on.letter,
         on.twin,
-        *t.cover,
+        t.cover,
         t.values,
         t.before,
         t.next_values,
@@ -273,7 +273,7 @@ fn ended_by<const N: usize, O: Operator, P: Operator, W: Front, V: Front>(
     requires next_packed { IsColumn N (count_in t.now.next_values) next.old }
     ensures packed { IsColumn N (count_in t.now.next_values) next.new }
     ensures taken { result ≡ true → MovesAs N t.now on (ended_fronts (O.op by)
-        (found_of (is_wide N) (P.op fold) (W.formula word)) (V.formula start)) next.old next.new }
+        (found_of (has_wide N) (P.op fold) (W.formula word)) (V.formula start)) next.old next.new }
     ensures kept { result ≡ false → next.new ≡ next.old }
 {
     let whole = Join {
@@ -341,7 +341,7 @@ fn anew_by<const N: usize, O: Operator, U: Front, V: Front>(
     requires next_packed { IsColumn N (count_in t.now.next_values) next.old }
     ensures packed { IsColumn N (count_in t.now.next_values) next.new }
     ensures taken { result ≡ true → MovesAs N t.now on
-        (anew_fronts (O.op by) (U.formula range_start) (held_of (is_wide N)) (V.formula start)) next.old next.new }
+        (anew_fronts (O.op by) (U.formula range_start) (held_of (has_wide N)) (V.formula start)) next.old next.new }
     ensures kept { result ≡ false → next.new ≡ next.old }
 {
     if PackedHull::<N>::is_wide() {
@@ -465,7 +465,7 @@ fn ended_from<const N: usize, P: Operator, W: Front, V: Front>(
     requires next_packed { IsColumn N (count_in t.now.next_values) next.old }
     ensures packed { IsColumn N (count_in t.now.next_values) next.new }
     ensures taken { result ≡ true → MovesAs N t.now on (ended_fronts (Fold (range_op g))
-        (found_of (is_wide N) (P.op fold) (W.formula word)) (V.formula start)) next.old next.new }
+        (found_of (has_wide N) (P.op fold) (W.formula word)) (V.formula start)) next.old next.new }
     ensures kept { result ≡ false → next.new ≡ next.old }
 {
     match g {
@@ -488,7 +488,7 @@ fn ended<const N: usize>(
     requires next_packed { IsColumn N (count_in t.now.next_values) next.old }
     ensures packed { IsColumn N (count_in t.now.next_values) next.new }
     ensures taken { result ≡ true → MovesAs N t.now on (ended_fronts (Fold (range_op g))
-        (found_of (is_wide N) (Fold (cell_op f)) (cell_word f)) (cell_start f)) next.old next.new }
+        (found_of (has_wide N) (Fold (cell_op f)) (cell_word f)) (cell_start f)) next.old next.new }
     ensures kept { result ≡ false → next.new ≡ next.old }
 {
     match f {
@@ -513,7 +513,7 @@ fn anew_from<const N: usize, V: Front>(
     requires next_packed { IsColumn N (count_in t.now.next_values) next.old }
     ensures packed { IsColumn N (count_in t.now.next_values) next.new }
     ensures taken { result ≡ true → MovesAs N t.now on
-        (anew_fronts (Fold (range_op g)) (range_start g) (held_of (is_wide N)) (V.formula start)) next.old next.new }
+        (anew_fronts (Fold (range_op g)) (range_start g) (held_of (has_wide N)) (V.formula start)) next.old next.new }
     ensures kept { result ≡ false → next.new ≡ next.old }
 {
     match g {
@@ -536,7 +536,7 @@ fn anew<const N: usize>(
     requires next_packed { IsColumn N (count_in t.now.next_values) next.old }
     ensures packed { IsColumn N (count_in t.now.next_values) next.new }
     ensures taken { result ≡ true → MovesAs N t.now on
-        (anew_fronts (Fold (range_op g)) (range_start g) (held_of (is_wide N)) (cell_start f)) next.old next.new }
+        (anew_fronts (Fold (range_op g)) (range_start g) (held_of (has_wide N)) (cell_start f)) next.old next.new }
     ensures kept { result ≡ false → next.new ≡ next.old }
 {
     match f {

@@ -7,7 +7,8 @@ ghost use Rattle.ts_automaton.specs.Typing.{each_is, is_constant, is_number_zero
 ghost use Rattle.ts_base.specs.Spans.{one_span};
 ghost use Rattle.ts_hull.specs.Hulls.{hull_of};
 ghost use Rattle.ts_row.specs.Rows.{IsHull, IsRow, hull_in, start_hull};
-ghost use Rattle.ts_sweep.specs.Packed.{IsPackOf, is_wide};
+ghost use Rattle.ts_sweep.specs.Packed.{IsPackOf};
+ghost use Rattle.ts_sweep.specs.Sides.{has_wide, lane_count, seen_hull, sides};
 
 use crate::packed_row::PackedRow;
 use std::alloc::Global;
@@ -38,9 +39,9 @@ fn constant_ends(e: Ext) -> Ends
 
 /// The start registers in packed form. Lanes that belong to no register are 0.
 fn packed_start<const N: usize>(regs: Regs) -> PackedHull<N>
-    requires registers { 6 ≤ N }
+    requires registers { 6 ≤ lane_count N }
     requires constants { each_is is_constant (regs_of regs) ≡ true }
-    requires width { rests is_number_zero (is_wide N) (regs_of regs) ≡ true }
+    requires width { rests is_number_zero (has_wide N) (regs_of regs) ≡ true }
     ensures { IsHull N (hull_of (one_hull (regs_of regs))) result }
 {
     let zeros = PackedHull::<N> { at: [0; N] };
@@ -57,19 +58,20 @@ fn packed_start<const N: usize>(regs: Regs) -> PackedHull<N>
         .with(Name::R, r)
 }
 
-/// Makes of `row` that of a cell with `count` values at which runs start, in the same memory: the start registers in
-/// the start state, and nothing in the others. After `Memory` it holds whatever hulls.
+/// Makes of `row` that of a cell with `count` values at which runs start, in the same memory: what is seen of the start
+/// registers in the start state, and nothing in the others. After `Memory` it holds whatever hulls.
 pub fn start_row<const N: usize>(
     alloc: Global,
     a: &Automaton,
     count: usize,
     row: &mut PackedRow<N>,
 ) -> Result<(), Memory>
-    requires width { a.now.wide ≡ is_wide N }
-    requires registers { 6 ≤ N }
+    requires width { a.now.wide ≡ has_wide N }
+    requires registers { 6 ≤ lane_count N }
     requires lanes { N ≤ 64 }
     ensures { IfOk result (λ u. IsRow N (length a.now.states) count row.new
-        × ((t j : ℕ) → t < length a.now.states → j < count → hull_in N row.new t j ≡ start_hull a.now t)) }
+        × ((t j : ℕ) → t < length a.now.states → j < count → hull_in N row.new t j
+        ≡ seen_hull (sides N) (start_hull a.now t))) }
 {
     let states = a.states();
     let hull = packed_start::<N>(a.start().regs);

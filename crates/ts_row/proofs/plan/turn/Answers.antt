@@ -2,7 +2,7 @@ use Rattle.std.proofs.Common.{ap, ◌∙◌}
 use Rattle.ts_automaton.specs.Body.{move_of, move_on}
 use Rattle.ts_automaton.proofs.StepLaws.{next_exists}
 use Rattle.ts_hull.specs.Sealed.{move_at}
-use Rattle.ts_row.proofs.WidthLaws.{move_rests}
+use Rattle.ts_row.proofs.WidthLaws.{move_narrow, move_rests}
 use Rattle.ts_row.proofs.plan.turn.Goals as goal
 
 pub returns-clause-value : goal.returns-clause-value
@@ -17,4 +17,9 @@ returns-clause-exists c =
 pub returns-clause-rests : goal.returns-clause-rests
 returns-clause-rests c =
     move_rests c.args.a.now c.state.ensures.rules c.args.q c.args.l c.requires (move_of c.turn_on.result.now)
+    (c.turn_on.ensures ∙ ap (move_on c.args.l) c.state.ensures.value)
+
+pub returns-clause-narrow : goal.returns-clause-narrow
+returns-clause-narrow c =
+    move_narrow c.args.a.now c.state.ensures.rules c.args.q c.args.l c.requires (move_of c.turn_on.result.now)
     (c.turn_on.ensures ∙ ap (move_on c.args.l) c.state.ensures.value)

@@ -1,5 +1,5 @@
 use Rattle.std.proofs.Common.{length, subst, ◌∙◌, arith}
-use Rattle.ts_row.specs.Rows.{HasTaken, hull_in, lanes_of, nothing, state_gives}
+use Rattle.ts_row.specs.Rows.{HasTaken, hull_in, lanes_of, nothing, seen_gives}
 use Rattle.ts_row.specs.Takings.{count_in, value_in}
 use Rattle.ts_row.proofs.Steps.{filled_none, filled_more, filled_all}
 use Rattle.ts_row.proofs.row_steps.next_row.Goals as goal
@@ -19,7 +19,8 @@ loop-q-preserved g c =
     filled_more g.row.N c.args.a.now (count_in c.args.values) (value_in c.args.values) (hull_in g.row.N c.args.before.now) k w c.loop-q.q c.loop-q.next
     c.take_state.new.next c.loop-q.invariant c.take_state.ensures.row
     (subst (λ z. HasTaken g.row.N (length c.loop-q.next) k w
-    (state_gives c.args.a.now c.loop-q.q (count_in c.args.values) (value_in c.args.values) (hull_at (lanes_of g.row.N) (nothing g.row.N) z)) c.loop-q.next
+    (seen_gives g.row.N c.args.a.now c.loop-q.q (count_in c.args.values) (value_in c.args.values)
+    (hull_at (lanes_of g.row.N) (nothing g.row.N) z)) c.loop-q.next
     c.take_state.new.next) c.column.ensures c.take_state.ensures.taken)
 
 pub returns : goal.returns

@@ -18,8 +18,11 @@ take_turn-requires g c =
           (
             c.requires.width,
             (
-              c.requires.shape,
-              subst (IsColumn g.row.N (count_in c.args.t.now.next_values)) (sym is) (c.requires.row.columns r c.requires.leads),
+              c.requires.suits,
+              (
+                c.requires.shape,
+                subst (IsColumn g.row.N (count_in c.args.t.now.next_values)) (sym is) (c.requires.row.columns r c.requires.leads),
+              ),
             ),
           ),
         ),

@@ -1,14 +1,13 @@
-use Rattle.std.proofs.Common.{sym, ◌∙◌}
 use Rattle.ts_row.specs.Rows.{nothing, lanes_of}
 use Rattle.ts_row.specs.Takings.{count_in, value_in}
 use Rattle.ts_sweep.specs.Columns.{hull_at}
 use Rattle.ts_row.proofs.Reached.{not_reached, taken_nothing}
 use Rattle.ts_row.proofs.row_steps.take_state.Goals as goal
 
-pub returns-then-not-is_some-clause-taken : goal.returns-then-not-is_some-clause-taken
-returns-then-not-is_some-clause-taken g c =
+pub returns-then-not-cover-clause-taken : goal.returns-then-not-cover-clause-taken
+returns-then-not-cover-clause-taken g c =
     taken_nothing c.args.a.now c.args.q g.row.N (count_in c.args.values) (value_in c.args.values)
     (hull_at (lanes_of g.row.N) (nothing g.row.N) c.args.column.now)
     _ (count_in c.args.next_values) (value_in c.args.next_values) c.args.next.now c.requires.registers c.requires.row
-    (not_reached g.row.N (count_in c.args.values) c.args.column.now c.cover_of-cover.result c.requires.registers c.requires.column c.cover_of-cover.ensures
-    (sym c.is_some.ensures ∙ c.if-not-is_some.true))
+    (not_reached g.row.N (count_in c.args.values) c.args.column.now c.cover_of-cover.result.some c.requires.registers c.requires.column
+    c.cover_of-cover.ensures.some c.if-not-cover.true)

@@ -6,7 +6,7 @@ use Rattle.ts_hull.specs.Hulls.{hull_of}
 use Rattle.ts_row.specs.Rows.{IsHull, IsRow, hull_in, start_hull}
 use Rattle.ts_row.proofs.StartLaws.{started}
 use Rattle.ts_row.proofs.WidthLaws.{start_constants, start_rests}
-use Rattle.ts_sweep.specs.Packed.{is_wide}
+use Rattle.ts_sweep.specs.Sides.{has_wide, seen_hull, sides}
 use Rattle.ts_row.proofs.start.start_row.Goals as goal
 
 pub packed_start-hull-requires : goal.packed_start-hull-requires
@@ -16,7 +16,7 @@ packed_start-hull-requires g c = (
     c.requires.registers,
     (
       subst (λ z. each_is is_constant z ≡ true) (sym (ap (λ z. z.regs) c.start.ensures.value)) (start_constants c.args.a.now c.states-states.ensures.rules),
-      subst (λ z. rests is_number_zero (is_wide g.row.N) z ≡ true) (sym (ap (λ z. z.regs) c.start.ensures.value))
+      subst (λ z. rests is_number_zero (has_wide g.row.N) z ≡ true) (sym (ap (λ z. z.regs) c.start.ensures.value))
           (subst (λ w. rests is_number_zero w c.args.a.now.start ≡ true) c.requires.width (start_rests c.args.a.now c.states-states.ensures.rules)),
     ),
   ),
@@ -25,7 +25,8 @@ packed_start-hull-requires g c = (
 pub returns : goal.returns
 returns g c =
     let new = set c.row.inside.columns.items 0 c.fill.new.self in
-    subst (λ s. IsRow g.row.N s c.args.count new × ((t j : ℕ) → t < s → j < c.args.count → hull_in g.row.N new t j ≡ start_hull c.args.a.now t))
+    subst (λ s. IsRow g.row.N s c.args.count new × ((t j : ℕ) → t < s → j < c.args.count → hull_in g.row.N new t j
+    ≡ seen_hull (sides g.row.N) (start_hull c.args.a.now t)))
     c.states-states.ensures.count
     (started g.row.N c.states-states.result c.args.count c.args.a.now c.reset.new.self c.packed_start-hull.result c.fill.new.self new c.requires.registers
     c.states-states.ensures.some c.in_ok-reset.ensures.0 c.in_ok-reset.ensures.1 (ap (λ z. set z 0 c.fill.new.self) c.row.view_is) c.in_ok-fill.ensures
