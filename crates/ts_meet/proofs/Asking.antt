@@ -7,14 +7,14 @@ use Rattle.ts_base.specs.SpanLayer.{IsWithin}
 use Rattle.ts_base.specs.Spans.{none_span, span_hull}
 use Rattle.ts_base.proofs.SpanLaws.{hull_left, hull_right}
 use Rattle.ts_automaton.specs.AutomatonRun.{Standing}
-use Rattle.ts_glue.specs.Glued.{glued_span}
 use Rattle.ts_glue.specs.Pairs.{Pair}
 use Rattle.ts_row.specs.Rows.{nothing}
 use Rattle.ts_sweep.specs.declared.packed.Ends.{Ends}
 use Rattle.ts_sweep.specs.declared.packed.PackedHull.{PackedHull}
 use Rattle.ts_sweep.specs.Lanes.{least}
+use Rattle.ts_sweep.specs.Sides.{sides}
 use Rattle.ts_meet.specs.Asked.{AreEnough, IsAnswer, Reaches}
-use Rattle.ts_meet.specs.Meets.{glued_hull, hull_of_spans, spans_between, spans_with, standing_in}
+use Rattle.ts_meet.specs.Meets.{glued_hull, glued_seen, hull_of_spans, spans_between, spans_with, standing_in}
 use Rattle.ts_meet.specs.Settled.{Between, IsSettled}
 use Rattle.ts_meet.specs.Sides.{StandFor}
 use Rattle.ts_meet.proofs.Meeting.{between_more, with_more}
@@ -36,7 +36,8 @@ pub with_rises : (n : ℕ) (p : Pair) (left : Standing Span) (right : List (List
 with_rises n p left right i x cells s k m le =
     let f : ℕ → Span = λ j. fold span_hull s (spans_with n p left right i x cells j) in
     up_to f
-    (λ j. subst (IsWithin (f j)) (sym (with_more n p left right i x cells j s)) (hull_left (f j) (glued_span p left (standing_in n right j i) x cells)))
+    (λ j. subst (IsWithin (f j)) (sym (with_more n p left right i x cells j s))
+    (hull_left (f j) (glued_seen (sides n) p left (standing_in n right j i) x cells)))
     k m le
 
 pub between_rises : (n : ℕ) (p : Pair) (left right : List (List (PackedHull n))) (i : ℕ) (x : ℤ) (cells states : ℕ) (s : Span) (k m : ℕ) → k ≤ m →
@@ -49,10 +50,11 @@ between_rises n p left right i x cells states s k m le =
 
 -- the span of a pair of states lies in the whole
 pair_within : (n : ℕ) (p : Pair) (left right : List (List (PackedHull n))) (i : ℕ) (x : ℤ) (cells states k q r : ℕ) → q < k → r < states →
-    IsWithin (glued_span p (standing_in n left q i) (standing_in n right r i) x cells) (hull_of_spans (spans_between n p left right i x cells states k))
+    IsWithin (glued_seen (sides n) p (standing_in n left q i) (standing_in n right r i) x cells)
+    (hull_of_spans (spans_between n p left right i x cells states k))
 pair_within n p left right i x cells states k q r lq lr =
     let here = standing_in n left q i in
-    let pair = glued_span p here (standing_in n right r i) x cells in
+    let pair = glued_seen (sides n) p here (standing_in n right r i) x cells in
     let before = hull_of_spans (spans_between n p left right i x cells states q) in
     let with : ℕ → Span = λ m. fold span_hull before (spans_with n p here right i x cells m) in
     let first : IsWithin pair (with (r + 1)) =

@@ -90,7 +90,7 @@ open_register Whole = tt
 open_register Away = tt
 
 -- a part of the one occurrence
-abbrev folded : Op → Part → ℤ → Bool → Bool → Bool → Glue
+abbrev pub folded : Op → Part → ℤ → Bool → Bool → Bool → Glue
 folded o p d trims l r = cond trims (folded_between o p l r d) (folded_both o p d)
 
 fold_cells : (o : Op) (p : Part) (d : ℤ) (trims l r : Bool) → IsCellValue d → AreCells (folded o p d trims l r)

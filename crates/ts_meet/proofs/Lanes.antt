@@ -12,7 +12,6 @@ use Rattle.ts_automaton.specs.declared.state.Mark.TheVariants.{Same, Zero, Cells
 use Rattle.ts_automaton.specs.Registers.{EachOf, spans_of, value_in}
 use Rattle.ts_automaton.specs.SpanRun.{marked_span}
 use Rattle.ts_glue.specs.Glue.{apart, glue_in, held_of, is_join, result_of}
-use Rattle.ts_glue.specs.Glued.{glued_span}
 use Rattle.ts_glue.specs.Pairs.{Pair}
 use Rattle.ts_hull.specs.Sealed.{sealed_spans}
 use Rattle.ts_sweep.specs.declared.packed.Ends.{Ends}
@@ -21,6 +20,7 @@ use Rattle.ts_sweep.specs.Lanes.{least}
 use Rattle.ts_sweep.specs.MoveLaws.{some_unpacked}
 use Rattle.ts_sweep.specs.Operators.{crossed}
 use Rattle.ts_sweep.specs.Packed.{AreSome, IsPackOf, IsWithin, unpacked}
+use Rattle.ts_sweep.specs.Sides.{Sides, BothEnds, seen}
 use Rattle.ts_sweep.specs.Trees.{folded_by, sum_above, sum_below}
 use Rattle.ts_sweep.proofs.TreeSums.{above_numbers, below_numbers}
 use Rattle.ts_meet.specs.declared.gluing.Gluing.{Gluing}
@@ -28,14 +28,16 @@ use Rattle.ts_meet.specs.declared.joints.Joints.{Joints}
 use Rattle.ts_meet.specs.declared.lane.End.{End}
 use Rattle.ts_meet.specs.declared.lane.End.TheVariants.{Below, Above}
 use Rattle.ts_meet.specs.Asked.{Reaches}
-use Rattle.ts_meet.specs.Ends.{AreFewAdded, IsLanePlain, end_alone, lane_at, lane_folded}
+use Rattle.ts_meet.specs.Ends.{AreFewAdded, IsLanePlain, end_alone, keeps, lane_at, lane_folded}
 use Rattle.ts_meet.specs.Joints.{AreJoints, expression, is_add}
-use Rattle.ts_meet.specs.Meets.{standing}
+use Rattle.ts_meet.specs.Meets.{glued_seen, standing}
 use Rattle.ts_meet.specs.SideLaws.{cell_packs, clamped_packs}
-use Rattle.ts_meet.specs.Sides.{TakesAny, clamped_values, marked_above, marked_below, marked_ends, side_of}
+use Rattle.ts_meet.specs.Sides.{TakesAny, clamped_values, marked_above, marked_below, marked_ends, pointed_spans, shown_ends, side_of}
 use Rattle.ts_meet.proofs.Gluings.{any_takes, apart_is, glued_packs}
 use Rattle.ts_meet.proofs.Marks.{marked_packs}
-use Rattle.ts_meet.proofs.Meeting.{lanes_pack, part_is}
+use Rattle.ts_meet.proofs.Meeting.{part_is}
+use Rattle.ts_meet.proofs.Pointed.{kept_lane, lanes_pack}
+use Rattle.ts_meet.proofs.SeenGlue.{shown_glued}
 
 -- sums
 
@@ -229,20 +231,24 @@ end_reached mark n few Below given e h kept s p =
 zero_cell : IsCellValue (pos 0)
 zero_cell = (grind (arith, ints), grind (arith, ints))
 
-pub apart_reaches : (n : ℕ) → 6 ≤ n → (p : Pair) (j : Joints) (q r : ℕ) (x : ℤ) (cells : ℕ) (left right : List ℤ) → AreJoints p j →
-    is_join p.table q r ≡ false → AreSome n left → AreSome n right → cells ≤ 4294967295 → (k : End) (given : ℤ) →
-    given ≤ℤ lane_at k (glue_in clamped_values (side_of left) (side_of right) (apart j.wide j.result)) →
-    (lane_at k (glue_in clamped_values (side_of left) (side_of right) (apart j.wide j.result)) <ℤ pos 9223372036854775807) ⊎ (j.mark ≡ Same) →
-    Reaches (end_alone k given) (glued_span p (standing q (spans_of (unpacked left))) (standing r (spans_of (unpacked right))) x cells)
-apart_reaches n big p j q r x cells left right h none some others few k given reached kept =
+pub apart_reaches : (z : Sides) (n : ℕ) → 6 ≤ n → (p : Pair) (j : Joints) (q r : ℕ) (x : ℤ) (cells : ℕ) (left right : List ℤ) → AreJoints p j →
+    is_join p.table q r ≡ false → (z ≡ BothEnds) ⊎ (j.wide ≡ false) → AreSome n left → AreSome n right → cells ≤ 4294967295 → (k : End) (given : ℤ) →
+    keeps z k ≡ true → given ≤ℤ lane_at k (glue_in clamped_values (side_of z left) (side_of z right) (apart j.wide j.result)) →
+    (lane_at k (glue_in clamped_values (side_of z left) (side_of z right) (apart j.wide j.result)) <ℤ pos 9223372036854775807) ⊎ (j.mark ≡ Same) →
+    Reaches (end_alone k given) (glued_seen z p (standing q (spans_of (unpacked left))) (standing r (spans_of (unpacked right))) x cells)
+apart_reaches z n big p j q r x cells left right h none alone some others few k given has reached kept =
     let s = spans_of (unpacked left) in let t = spans_of (unpacked right) in
-    let g : Gluing = record { result = j.result; fold = j.result; worth = pos 0; wide = j.wide; joins = false; trims = false; held_left = false; held_right = false } in
-    let e = glue_in clamped_values (side_of left) (side_of right) (apart j.wide j.result) in
-    let packs : IsPackOf e (glue_in sealed_spans s t (apart j.wide j.result)) =
-    glued_packs clamped_values TakesAny cell_packs (λ o a b s t h p q. clamped_packs o a b s t p q) g (side_of left) (side_of right) zero_cell
-    (any_takes clamped_values (side_of left) (side_of right) (expression g)) e refl s t (lanes_pack n left big some) (lanes_pack n right big others) in
+    let g : Gluing =
+    record { result = j.result; fold = j.result; worth = pos 0; wide = j.wide; joins = false; trims = false; held_left = false; held_right = false } in
+    let e = glue_in clamped_values (side_of z left) (side_of z right) (apart j.wide j.result) in
+    let packs : IsPackOf e (glue_in sealed_spans (pointed_spans z s) (pointed_spans z t) (apart j.wide j.result)) =
+    glued_packs clamped_values TakesAny cell_packs (λ o a b s t h p q. clamped_packs o a b s t p q) g (side_of z left) (side_of z right) zero_cell
+    (any_takes clamped_values (side_of z left) (side_of z right) (expression g)) e refl (pointed_spans z s) (pointed_spans z t)
+    (lanes_pack z n left big some) (lanes_pack z n right big others) in
+    let stays = sym (kept_lane z k e has) in
     subst (Reaches (end_alone k given))
-    (ap (λ m. marked_span m cells (glue_in sealed_spans s t (apart j.wide j.result))) h.mark
-    ∙ ap (λ u. marked_span p.forward.mark cells (glue_in sealed_spans s t u)) (apart_is p q r x g h.result h.wide refl none)
-    ∙ sym (part_is p q r s t x cells (some_unpacked n left big some) (some_unpacked n right big others)))
-    (end_reached j.mark cells few k given e reached kept _ packs)
+    (ap (λ m. marked_span m cells (seen z (glue_in sealed_spans s t (apart j.wide j.result)))) h.mark
+    ∙ ap (λ u. marked_span p.forward.mark cells (seen z (glue_in sealed_spans s t u))) (apart_is p q r x g h.result h.wide refl none)
+    ∙ sym (part_is z p q r s t x cells (some_unpacked n left big some) (some_unpacked n right big others)))
+    (end_reached j.mark cells few k given (shown_ends z e) (subst (λ y. given ≤ℤ y) stays reached)
+    (subst (λ y. (y <ℤ pos 9223372036854775807) ⊎ (j.mark ≡ Same)) stays kept) _ (shown_glued z g s t e alone packs))

@@ -1,6 +1,8 @@
 pub mod Gluings
 pub mod Marks
+pub mod Pointed
 pub mod Meeting
+pub mod SeenGlue
 pub mod Asking
 pub mod CallerLemmas
 pub mod Lanes

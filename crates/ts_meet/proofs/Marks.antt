@@ -30,7 +30,7 @@ both_ends a b c d p q = cc
 neg_neg : (x : ℤ) → neg_ℤ (neg_ℤ x) ≡ x
 neg_neg x = grind (arith, ints)
 
-neg_upper : (x : ℤ) → negated (upper (neg_ℤ x)) ≡ upper x
+pub neg_upper : (x : ℤ) → negated (upper (neg_ℤ x)) ≡ upper x
 neg_upper x = elim (low_or_not x) [
   | inl low ↦ ap negated (upper_high (neg_ℤ x) (omega (arith, ints, low))) ∙ sym (upper_low x low)
   | inr above ↦ elim (high_or_not x) [
@@ -40,7 +40,7 @@ neg_upper x = elim (low_or_not x) [
   ]
 ]
 
-upper_neg : (x : ℤ) → upper (neg_ℤ x) ≡ negated (upper x)
+pub upper_neg : (x : ℤ) → upper (neg_ℤ x) ≡ negated (upper x)
 upper_neg x = sym (neg_upper (neg_ℤ x)) ∙ ap (λ z. negated (upper z)) (neg_neg x)
 
 le_true : (x y : ℤ) → x ≤ℤ y → int_le x y ≡ true

@@ -1,5 +1,5 @@
 -- One end of a span alone, in its lane, and what is needed of ends.
-use Rattle.std.specs.Prelude.{◌≡◌, ◌||◌, ◌+ℤ◌, ℤ, Bool, true}
+use Rattle.std.specs.Prelude.{◌≡◌, ◌||◌, ◌+ℤ◌, ℤ, Bool, true, false}
 use Rattle.std.specs.Int.{int_max, int_min}
 use Rattle.ts_base.specs.declared.op.Op.{Op}
 use Rattle.ts_base.specs.declared.op.Op.TheVariants.{Add, Max, Min}
@@ -8,6 +8,7 @@ use Rattle.ts_sweep.specs.declared.packed.Ends.{Ends}
 use Rattle.ts_sweep.specs.Lanes.{least}
 use Rattle.ts_sweep.specs.Operators.{crossed}
 use Rattle.ts_sweep.specs.Packed.{ends, IsWithin}
+use Rattle.ts_sweep.specs.Sides.{Sides, BothEnds, UpperEnds, LowerEnds}
 use Rattle.ts_meet.specs.declared.lane.End.{End}
 use Rattle.ts_meet.specs.declared.lane.End.TheVariants.{Below, Above}
 use Rattle.ts_meet.specs.declared.needed.Needed.{Needed}
@@ -18,6 +19,14 @@ use Rattle.ts_meet.specs.Joints.{is_add}
 abbrev pub lane_at : End → Ends → ℤ
 lane_at Below e = e.below
 lane_at Above e = e.above
+
+-- there is a lane for the end
+abbrev pub keeps : Sides → End → Bool
+keeps BothEnds k = true
+keeps UpperEnds Below = false
+keeps UpperEnds Above = true
+keeps LowerEnds Below = true
+keeps LowerEnds Above = false
 
 -- what an operator makes of two lanes of an end, where no sum is clamped
 abbrev pub lane_folded : End → Op → ℤ → ℤ → ℤ

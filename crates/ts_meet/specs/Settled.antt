@@ -3,14 +3,14 @@ use Rattle.std.specs.Prelude.{◌≡◌, ◌<◌, ◌≤◌, ℕ, ℤ, List, [],
 use Rattle.ts_base.specs.declared.span.Span.{Span}
 use Rattle.ts_automaton.specs.Registers.{spans_of}
 use Rattle.ts_automaton.specs.AutomatonRun.{Standing}
-use Rattle.ts_glue.specs.Glued.{glued_span}
 use Rattle.ts_glue.specs.Pairs.{Pair}
-use Rattle.ts_row.specs.Rows.{nothing}
+use Rattle.ts_row.specs.Rows.{lanes_of, nothing}
 use Rattle.ts_sweep.specs.declared.packed.Ends.{Ends}
 use Rattle.ts_sweep.specs.declared.packed.PackedHull.{PackedHull}
 use Rattle.ts_sweep.specs.Packed.{IsPacked, unpacked}
+use Rattle.ts_sweep.specs.Sides.{Sides, lane_count, sides}
 use Rattle.ts_meet.specs.Asked.{Reaches}
-use Rattle.ts_meet.specs.Meets.{standing}
+use Rattle.ts_meet.specs.Meets.{glued_seen, standing}
 
 -- each place from a on, before b, is so
 abbrev pub Between : (a b : ℕ) → (ℕ → Type 0) → Type 0
@@ -18,7 +18,9 @@ Between a b Is = (i : ℕ) → a ≤ i → i < b → Is i
 
 -- there is a packed hull at each of the places before one
 abbrev pub ArePlaces : (n to : ℕ) → List (PackedHull n) → Type 0
-ArePlaces n to hulls = (to ≤ length hulls) × ((i : ℕ) → i < to → IsPacked n (get_or hulls i (nothing n)).at)
+ArePlaces n to hulls =
+    (to ≤ length hulls)
+    × ((i : ℕ) → i < to → IsPacked (lane_count n) (lanes_of n (get_or hulls i (nothing n))))
 
 -- so in the column of each of so many states
 pub record HavePlaces (n states to : ℕ) (row : List (List (PackedHull n))) : Type 0 where
@@ -27,20 +29,20 @@ pub record HavePlaces (n states to : ℕ) (row : List (List (PackedHull n))) : T
 
 -- the state q with a hull, and with that at place i of a column
 abbrev pub with_hull : (n q : ℕ) → PackedHull n → Standing Span
-with_hull n q h = standing q (spans_of (unpacked h.at))
+with_hull n q h = standing q (spans_of (unpacked (lanes_of n h)))
 
 abbrev pub with_hull_at : (n q : ℕ) → List (PackedHull n) → ℕ → Standing Span
 with_hull_at n q hulls i = with_hull n q (get_or hulls i (nothing n))
 
--- the span of two states that meet reaches these ends, whatever the value
-abbrev pub AlwaysReaches : Ends → Pair → (left right : Standing Span) → ℕ → Type 0
-AlwaysReaches given p left right cells = (x : ℤ) → Reaches given (glued_span p left right x cells)
+-- what is seen of the span of two states that meet reaches these ends, whatever the value
+abbrev pub AlwaysReaches : Sides → Ends → Pair → (left right : Standing Span) → ℕ → Type 0
+AlwaysReaches s given p left right cells = (x : ℤ) → Reaches given (glued_seen s p left right x cells)
 
 -- so does that of the states q and r at place i of two columns
 abbrev pub IsSettledBy :
     (n : ℕ) → Ends → Pair → (q r : ℕ) → (left right : List (PackedHull n)) → (cells i : ℕ) → Type 0
 IsSettledBy n given p q r left right cells i =
-    AlwaysReaches given p (with_hull_at n q left i) (with_hull_at n r right i) cells
+    AlwaysReaches (sides n) given p (with_hull_at n q left i) (with_hull_at n r right i) cells
 
 -- so with one of the states on the right, and with one of those on both sides
 abbrev pub IsSettledBySome :

@@ -1,29 +1,55 @@
 -- The registers on both sides of a cell, by their ends, and what operators and a mark make of ends.
 use Rattle.std.specs.Prelude.{◌≡◌, ◌⊎◌, ℕ, ℤ, pos, negsuc, neg_ℤ, int_le, if◌then◌else◌, List}
-use Rattle.std.specs.Int.{int_max}
+use Rattle.std.specs.Int.{int_max, int_min}
 use Rattle.ts_base.specs.declared.ext.Ext.{Ext}
 use Rattle.ts_base.specs.declared.span.Span.{Span}
 use Rattle.ts_base.specs.declared.op.Op.TheVariants.{Add, Max, Min}
-use Rattle.ts_base.specs.Spans.{none_span}
+use Rattle.ts_base.specs.Spans.{has_some, none_span, one_span}
 use Rattle.ts_automaton.specs.declared.state.Mark.{Mark}
 use Rattle.ts_automaton.specs.declared.state.Mark.TheVariants.{Same, Zero, Cells}
 use Rattle.ts_automaton.specs.declared.expr.Operator.{Operator}
 use Rattle.ts_automaton.specs.declared.expr.Operator.TheVariants.{Fold, Sub}
-use Rattle.ts_automaton.specs.Registers.{EachOf, each, Each, Values}
+use Rattle.ts_automaton.specs.Registers.{EachOf, each, map_each, Each, Values}
 use Rattle.ts_sweep.specs.declared.packed.Ends.{Ends}
 use Rattle.ts_sweep.specs.declared.packed.Name.TheVariants.{C, E, D, F, R}
 use Rattle.ts_sweep.specs.Lanes.{least}
 use Rattle.ts_sweep.specs.Operators.{crossed, sum_of_ends, greater_of_ends, lesser_of_ends}
 use Rattle.ts_sweep.specs.Packed.{ends, name_ends, negated, AreWithin, IsPackOf, IsSomeEnds}
+use Rattle.ts_sweep.specs.Sides.{Sides, BothEnds, UpperEnds, LowerEnds}
 use Rattle.ts_sweep.specs.Trees.{joined_by, lane_of}
 use Rattle.ts_meet.specs.declared.side.Side.{Side}
 
--- what contracts see of the registers on one side; those in lanes
+-- an end that isn't kept is read as the one that is: so the two are a single number or infinity
+abbrev pub turned : ℤ → ℤ
+turned x = neg_ℤ (int_min x (pos 9223372036854775807))
+
+abbrev pub pointed_ends : Sides → Ends → Ends
+pointed_ends BothEnds e = e
+pointed_ends UpperEnds e = ends (turned e.above) e.above
+pointed_ends LowerEnds e = ends e.below (turned e.below)
+
+abbrev pub pointed : Sides → Span → Span
+pointed BothEnds t = t
+pointed UpperEnds t = if has_some t then one_span t.hi else none_span
+pointed LowerEnds t = if has_some t then one_span t.lo else none_span
+
+-- where registers lie between ends, an end that isn't kept is infinite again
+abbrev pub shown_ends : Sides → Ends → Ends
+shown_ends BothEnds e = e
+shown_ends UpperEnds e = ends (pos 9223372036854775807) e.above
+shown_ends LowerEnds e = ends e.below (pos 9223372036854775807)
+
+-- what contracts see of the registers on one side; those in lanes, and those of spans
 abbrev pub ends_in : Side → EachOf Ends
 ends_in s = each s.c s.e s.d s.f s.r
 
-abbrev pub side_of : List ℤ → EachOf Ends
-side_of xs = each (name_ends xs C) (name_ends xs E) (name_ends xs D) (name_ends xs F) (name_ends xs R)
+abbrev pub side_of : Sides → List ℤ → EachOf Ends
+side_of s xs =
+    each (pointed_ends s (name_ends xs C)) (pointed_ends s (name_ends xs E)) (pointed_ends s (name_ends xs D))
+    (pointed_ends s (name_ends xs F)) (pointed_ends s (name_ends xs R))
+
+abbrev pub pointed_spans : Sides → EachOf Span → EachOf Span
+pointed_spans s regs = map_each (pointed s) regs
 
 -- a register lies between the ends of each
 abbrev pub AreSomeEnds : EachOf Ends → Type 0

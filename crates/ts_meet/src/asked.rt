@@ -1,6 +1,6 @@
 //! The span of a value, where it doesn't have what is asked.
 
-ghost use Rattle.std.specs.Prelude.{◌≡◌, ◌≤◌, IsTrue};
+ghost use Rattle.std.specs.Prelude.{◌≡◌, ◌⊎◌, ◌≤◌, IsTrue, false};
 ghost use Rattle.ts_base.specs.declared.span.Span.{Span};
 ghost use Rattle.ts_base.specs.Limits.{IsCellValue};
 ghost use Rattle.ts_base.specs.Spans.{none_span, span_hull};
@@ -9,6 +9,7 @@ ghost use Rattle.ts_meet.specs.Asked.{AreEnough, IsAnswer, IsHullUntil, Reaches}
 ghost use Rattle.ts_meet.specs.Joints.{AreJoints};
 ghost use Rattle.ts_meet.specs.Meets.{HasPlace, glued_hull};
 ghost use Rattle.ts_meet.specs.Sides.{StandFor};
+ghost use Rattle.ts_sweep.specs.Sides.{BothEnds, lane_count, sides};
 
 use crate::joints::Joints;
 use crate::marked::{nothing, span_of};
@@ -52,8 +53,9 @@ pub fn asked_at<Q: Asked, const N: usize>(
     right: &PackedRow<N>,
     spot: Spot,
 ) -> Option<Span>
-    requires registers { 6 ≤ N }
+    requires registers { 6 ≤ lane_count N }
     requires lanes { N ≤ 64 }
+    requires alone { (sides N ≡ BothEnds) ⊎ (joints.now.wide ≡ false) }
     requires form { span_hull so_far none_span ≡ so_far }
     requires known { Q.excluded asked so_far }
     requires left { HasPlace N joints.now.left_states spot.place left.now }
@@ -94,8 +96,9 @@ fn asked_until<Q: Asked, const N: usize>(
     right: &PackedRow<N>,
     spot: Spot,
 ) -> Option<Span>
-    requires registers { 6 ≤ N }
+    requires registers { 6 ≤ lane_count N }
     requires lanes { N ≤ 64 }
+    requires alone { (sides N ≡ BothEnds) ⊎ (joints.now.wide ≡ false) }
     requires enough { AreEnough (Q.excluded asked) enough }
     requires left { HasPlace N joints.now.left_states spot.place left.now }
     requires right { HasPlace N joints.now.right_states spot.place right.now }
@@ -118,8 +121,9 @@ fn glued_until<const N: usize>(
     right: &PackedRow<N>,
     spot: Spot,
 ) -> Option<Ends>
-    requires registers { 6 ≤ N }
+    requires registers { 6 ≤ lane_count N }
     requires lanes { N ≤ 64 }
+    requires alone { (sides N ≡ BothEnds) ⊎ (joints.now.wide ≡ false) }
     requires left { HasPlace N joints.now.left_states spot.place left.now }
     requires right { HasPlace N joints.now.right_states spot.place right.now }
     requires value { IsCellValue spot.value }
@@ -144,8 +148,9 @@ fn hull_until<const N: usize>(
     right: &PackedRow<N>,
     spot: Spot,
 ) -> Option<Ends>
-    requires registers { 6 ≤ N }
+    requires registers { 6 ≤ lane_count N }
     requires lanes { N ≤ 64 }
+    requires alone { (sides N ≡ BothEnds) ⊎ (joints.now.wide ≡ false) }
     requires operator { operator ≡ joints.now.result }
     requires left { HasPlace N joints.now.left_states spot.place left.now }
     requires right { HasPlace N joints.now.right_states spot.place right.now }

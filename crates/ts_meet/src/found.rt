@@ -37,6 +37,7 @@ impl Joints {
         requires value { IsCellValue spot.value }
         ensures value { (p : Pair) → AreJoints p self.now → expression result ≡ glue_of p left right spot.value }
         ensures worth { IsCellValue result.worth }
+        ensures wide { result.wide ≡ self.now.wide }
     {
         Gluing {
             result: operator,
@@ -58,6 +59,7 @@ impl Joints {
         ensures value { (p : Pair) (q r : ℕ) (x : ℤ) → AreJoints p self.now → is_join p.table q r ≡ false →
             expression result ≡ glue_of p q r x }
         ensures worth { IsCellValue result.worth }
+        ensures wide { result.wide ≡ self.now.wide }
     {
         Gluing {
             result: operator,

@@ -1,17 +1,19 @@
 //! What is made of the registers on both sides of a cell.
 
-ghost use Rattle.std.specs.Prelude.{◌≡◌, ◌≤◌, true, neg_ℤ, pos};
+ghost use Rattle.std.specs.Prelude.{◌≡◌, ◌⊎◌, ◌≤◌, true, false, neg_ℤ, pos};
 ghost use Rattle.ts_automaton.specs.Registers.{Takes, spans_of, value_in};
 ghost use Rattle.ts_base.specs.declared.ext.Ext.TheVariants.{Int};
 ghost use Rattle.ts_base.specs.Limits.{IsCellValue};
 ghost use Rattle.ts_glue.specs.Glue.{GlueTakes, apart, fold_of, folded_between, folded_both, glue_in, held_of, result_of};
 ghost use Rattle.ts_hull.specs.Sealed.{sealed_spans};
 ghost use Rattle.ts_meet.specs.Joints.{IsFoldPlain, IsPlain, expression, folds_held, is_add, part_by};
-ghost use Rattle.ts_meet.specs.Sides.{ends_in};
+ghost use Rattle.ts_meet.specs.Sides.{ends_in, pointed_spans};
+ghost use Rattle.ts_row.specs.Rows.{lanes_of};
 ghost use Rattle.ts_sweep.specs.Fronts.{ArePlain};
 ghost use Rattle.ts_sweep.specs.Packed.{AreSome, IsPackOf, unpacked};
+ghost use Rattle.ts_sweep.specs.Sides.{BothEnds, lane_count, seen, sides};
 
-use crate::side::{Side, are_plain};
+use crate::side::{Side, are_plain, shown};
 use crate::sums::{Clamped, Plain, Sums};
 use ts_automaton::{Op, Operator};
 use ts_glue::Part;
@@ -36,8 +38,7 @@ impl Gluing {
     /// How the registers are glued where no occurrence goes on.
     #[inline(always)]
     pub(crate) fn apart(operator: Op, wide: bool) -> Gluing
-        ensures value { expression result ≡ apart wide operator }
-        ensures worth { IsCellValue result.worth }
+        ensures parts { (result.wide ≡ wide) × (result.result ≡ operator) }
     {
         Gluing {
             result: operator,
@@ -51,17 +52,33 @@ impl Gluing {
         }
     }
 
-    /// The glued ends of two hulls before the mark. If all numbers that are added or taken away are small, sums are
-    /// those of the lanes; otherwise they are clamped: in place where that is common, between wide automata of which one
-    /// holds nothing.
+    /// The glued ends of two hulls before the mark. An end that the hulls haven't is infinite.
     #[inline(always)]
     pub(crate) fn glued<const N: usize>(self, left: &PackedHull<N>, right: &PackedHull<N>) -> Ends
-        requires registers { 6 ≤ N }
-        requires left { AreSome N left.now.at }
-        requires right { AreSome N right.now.at }
+        requires registers { 6 ≤ lane_count N }
+        requires alone { (sides N ≡ BothEnds) ⊎ (self.wide ≡ false) }
+        requires left { AreSome (lane_count N) (lanes_of N left.now) }
+        requires right { AreSome (lane_count N) (lanes_of N right.now) }
+        requires worth { IsCellValue self.worth }
+        ensures { IsPackOf result (seen (sides N) (glue_in sealed_spans
+            (spans_of (unpacked (lanes_of N left.now))) (spans_of (unpacked (lanes_of N right.now)))
+            (expression self))) }
+    {
+        shown::<N>(self.pointed(left, right))
+    }
+
+    /// The glued ends of two hulls before the mark, where an end that they haven't is read as the one that they have.
+    /// If all numbers that are added or taken away are small, sums are those of the lanes; otherwise they are clamped:
+    /// in place where that is common, between wide automata of which one holds nothing.
+    #[inline(always)]
+    fn pointed<const N: usize>(self, left: &PackedHull<N>, right: &PackedHull<N>) -> Ends
+        requires registers { 6 ≤ lane_count N }
+        requires left { AreSome (lane_count N) (lanes_of N left.now) }
+        requires right { AreSome (lane_count N) (lanes_of N right.now) }
         requires worth { IsCellValue self.worth }
         ensures { IsPackOf result (glue_in sealed_spans
-            (spans_of (unpacked left.now.at)) (spans_of (unpacked right.now.at)) (expression self)) }
+            (pointed_spans (sides N) (spans_of (unpacked (lanes_of N left.now))))
+            (pointed_spans (sides N) (spans_of (unpacked (lanes_of N right.now)))) (expression self)) }
     {
         let (first, second) = (Side::of(left), Side::of(right));
         if self.is_plain(first, second) {
@@ -76,12 +93,13 @@ impl Gluing {
     /// The glued ends of two hulls before the mark, with clamped sums; rare between narrow automata.
     #[inline(never)]
     fn clamped<const N: usize>(self, left: &PackedHull<N>, right: &PackedHull<N>) -> Ends
-        requires registers { 6 ≤ N }
-        requires left { AreSome N left.now.at }
-        requires right { AreSome N right.now.at }
+        requires registers { 6 ≤ lane_count N }
+        requires left { AreSome (lane_count N) (lanes_of N left.now) }
+        requires right { AreSome (lane_count N) (lanes_of N right.now) }
         requires worth { IsCellValue self.worth }
         ensures { IsPackOf result (glue_in sealed_spans
-            (spans_of (unpacked left.now.at)) (spans_of (unpacked right.now.at)) (expression self)) }
+            (pointed_spans (sides N) (spans_of (unpacked (lanes_of N left.now))))
+            (pointed_spans (sides N) (spans_of (unpacked (lanes_of N right.now)))) (expression self)) }
     {
         self.glued_by::<Clamped>(Side::of(left), Side::of(right))
     }
@@ -93,16 +111,28 @@ impl Gluing {
         requires worth { IsCellValue self.worth }
         ensures { result ≡ glue_in S.values (ends_in left) (ends_in right) (expression self) }
     {
+        if !self.joins {
+            return self.answers::<S>(left, right);
+        }
         let join = Operator::Fold(self.result);
-        let (first, second) = if self.joins {
-            (
-                S::joined(join, left.r, right.r),
-                self.folded::<S>(left, right),
-            )
-        } else {
-            (self.answer::<S>(left), self.answer::<S>(right))
-        };
-        S::joined(join, first, second)
+        S::joined(
+            join,
+            S::joined(join, left.r, right.r),
+            self.folded::<S>(left, right),
+        )
+    }
+
+    /// The answers of both runs joined, before the mark.
+    #[inline(always)]
+    pub(crate) fn answers<S: Sums>(self, left: Side, right: Side) -> Ends
+        requires { GlueTakes S.takes S.values (ends_in left) (ends_in right) (apart self.wide self.result) }
+        ensures { result ≡ glue_in S.values (ends_in left) (ends_in right) (apart self.wide self.result) }
+    {
+        S::joined(
+            Operator::Fold(self.result),
+            self.answer::<S>(left),
+            self.answer::<S>(right),
+        )
     }
 
     /// The answer of a run, before the mark.

@@ -3,23 +3,36 @@
 ghost use Rattle.std.specs.Prelude.{◌≡◌, ◌≤◌, pos, true, false};
 ghost use Rattle.ts_automaton.specs.Registers.{value_in};
 ghost use Rattle.ts_glue.specs.Glue.{apart, glue_in, held_of, result_of};
-ghost use Rattle.ts_meet.specs.Ends.{AreFewAdded, IsLanePlain, lane_at, lane_folded};
+ghost use Rattle.ts_meet.specs.Ends.{AreFewAdded, IsLanePlain, keeps, lane_at, lane_folded};
 ghost use Rattle.ts_meet.specs.Joints.{is_add};
 ghost use Rattle.ts_meet.specs.Sides.{clamped_values, ends_in, side_of};
+ghost use Rattle.ts_row.specs.Rows.{lanes_of};
 ghost use Rattle.ts_sweep.specs.Operators.{crossed};
-ghost use Rattle.ts_sweep.specs.Packed.{IsWithin};
+ghost use Rattle.ts_sweep.specs.Packed.{AreSome, IsWithin};
+ghost use Rattle.ts_sweep.specs.Sides.{lane_count, sides};
 
 use crate::gluing::{Gluing, is_add};
 use crate::side::Side;
 use crate::sums::{Clamped, crossed};
 use ts_automaton::Op;
-use ts_sweep::packed::{Ends, PackedHull};
+use ts_sweep::packed::{Ends, LOWER, PackedHull, UPPER};
 
 /// An end of a span.
 #[derive(Clone, Copy)]
 pub(crate) enum End {
     Below,
     Above,
+}
+
+/// Whether hulls of N lanes have the end.
+#[inline(always)]
+pub(crate) fn keeps<const N: usize>(end: End) -> bool
+    ensures { result ≡ keeps (sides N) end }
+{
+    match end {
+        End::Below => N != UPPER,
+        End::Above => N != LOWER,
+    }
 }
 
 /// The least size of a number that isn't added without a clamp, a power of two: one test shows that several are less.
@@ -36,9 +49,12 @@ pub(crate) fn apart_lane<const N: usize>(
     left: &PackedHull<N>,
     right: &PackedHull<N>,
 ) -> i64
-    requires registers { 6 ≤ N }
+    requires registers { 6 ≤ lane_count N }
+    requires left { AreSome (lane_count N) (lanes_of N left.now) }
+    requires right { AreSome (lane_count N) (lanes_of N right.now) }
     ensures { result ≡ lane_at end
-        (glue_in clamped_values (side_of left.now.at) (side_of right.now.at) (apart wide operator)) }
+        (glue_in clamped_values
+        (side_of (sides N) (lanes_of N left.now)) (side_of (sides N) (lanes_of N right.now)) (apart wide operator)) }
 {
     let (first, second) = (Side::of(left), Side::of(right));
     if is_plain(end, wide, operator, first) & is_plain(end, wide, operator, second) {
@@ -58,9 +74,12 @@ fn narrow_clamped<const N: usize>(
     left: &PackedHull<N>,
     right: &PackedHull<N>,
 ) -> i64
-    requires registers { 6 ≤ N }
+    requires registers { 6 ≤ lane_count N }
+    requires left { AreSome (lane_count N) (lanes_of N left.now) }
+    requires right { AreSome (lane_count N) (lanes_of N right.now) }
     ensures { result ≡ lane_at end
-        (glue_in clamped_values (side_of left.now.at) (side_of right.now.at) (apart false operator)) }
+        (glue_in clamped_values
+        (side_of (sides N) (lanes_of N left.now)) (side_of (sides N) (lanes_of N right.now)) (apart false operator)) }
 {
     of_both_clamped(end, false, operator, Side::of(left), Side::of(right))
 }
@@ -72,7 +91,7 @@ fn of_both_clamped(end: End, wide: bool, operator: Op, left: Side, right: Side) 
         ≡ lane_at end (glue_in clamped_values (ends_in left) (ends_in right) (apart wide operator)) }
 {
     let gluing = Gluing::apart(operator, wide);
-    lane(end, gluing.glued_by::<Clamped>(left, right))
+    lane(end, gluing.answers::<Clamped>(left, right))
 }
 
 /// The lane of an end of what two runs make apart, with the sums of the lanes.

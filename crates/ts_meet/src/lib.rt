@@ -10,7 +10,8 @@
 //!   state 2   . . . .                           h h h h   state 2      found once for a machine
 //! ```
 //!
-//! All is done by the ends of registers, as they lie in lanes. What is made is exactly what ts_glue makes of spans.
+//! All is done by the ends of registers, as they lie in lanes. What is made is exactly what ts_glue makes of spans. Of
+//! hulls that have one end alone it is what that end tells: the other end of each span is infinite, before the mark.
 #![tactic(auto)]
 
 mod asked;

@@ -1,20 +1,21 @@
 //! The span at a value of a cell, from the rows on both sides.
 
-ghost use Rattle.std.specs.Prelude.{◌≡◌, ℕ, ◌<◌, ◌≤◌, fold, length};
+ghost use Rattle.std.specs.Prelude.{◌≡◌, ◌⊎◌, ℕ, ◌<◌, ◌≤◌, false, fold, length};
 ghost use Rattle.ts_automaton.specs.Registers.{spans_of};
-ghost use Rattle.ts_automaton.specs.SpanRun.{finish_span_of};
 ghost use Rattle.ts_base.specs.declared.span.Span.{Span};
 ghost use Rattle.ts_base.specs.Limits.{IsCellValue};
 ghost use Rattle.ts_base.specs.Spans.{span_hull};
-ghost use Rattle.ts_glue.specs.Glued.{glued_span};
 ghost use Rattle.ts_glue.specs.Pairs.{Pair};
 ghost use Rattle.ts_meet.specs.Joints.{AreJoints};
-ghost use Rattle.ts_meet.specs.Meets.{HasPlace, finish_hull, glued_hull, spans_with, standing};
+ghost use Rattle.ts_meet.specs.Meets.{HasPlace, finish_hull, finish_seen, glued_hull, glued_seen, spans_with, standing};
 ghost use Rattle.ts_meet.specs.Sides.{StandFor};
+ghost use Rattle.ts_row.specs.Rows.{lanes_of};
 ghost use Rattle.ts_sweep.specs.Packed.{AreSome, IsPacked, unpacked};
+ghost use Rattle.ts_sweep.specs.Sides.{BothEnds, lane_count, sides};
 
 use crate::joints::Joints;
 use crate::marked::{joined, marked, nothing, span_of};
+use crate::side::shown;
 use crate::spot::Spot;
 use ts_automaton::{Automaton, Op};
 use ts_base::Span;
@@ -31,8 +32,9 @@ pub fn glued_at<const N: usize>(
     right: &PackedRow<N>,
     spot: Spot,
 ) -> Span
-    requires registers { 6 ≤ N }
+    requires registers { 6 ≤ lane_count N }
     requires lanes { N ≤ 64 }
+    requires alone { (sides N ≡ BothEnds) ⊎ (joints.now.wide ≡ false) }
     requires left { HasPlace N joints.now.left_states spot.place left.now }
     requires right { HasPlace N joints.now.right_states spot.place right.now }
     requires value { IsCellValue spot.value }
@@ -55,8 +57,9 @@ fn glued_by<const N: usize>(
     right: &PackedRow<N>,
     spot: Spot,
 ) -> Span
-    requires registers { 6 ≤ N }
+    requires registers { 6 ≤ lane_count N }
     requires lanes { N ≤ 64 }
+    requires alone { (sides N ≡ BothEnds) ⊎ (joints.now.wide ≡ false) }
     requires operator { operator ≡ joints.now.result }
     requires left { HasPlace N joints.now.left_states spot.place left.now }
     requires right { HasPlace N joints.now.right_states spot.place right.now }
@@ -90,16 +93,17 @@ pub(crate) fn with_reached<const N: usize>(
     right: &PackedRow<N>,
     spot: Spot,
 ) -> Ends
-    requires registers { 6 ≤ N }
+    requires registers { 6 ≤ lane_count N }
     requires lanes { N ≤ 64 }
+    requires alone { (sides N ≡ BothEnds) ⊎ (joints.now.wide ≡ false) }
     requires operator { operator ≡ joints.now.result }
     requires state { q < joints.now.left_states }
-    requires left { IsPacked N left.now.at }
+    requires left { IsPacked (lane_count N) (lanes_of N left.now) }
     requires right { HasPlace N joints.now.right_states spot.place right.now }
     requires value { IsCellValue spot.value }
     ensures { (p : Pair) (s : Span) → AreJoints p joints.now → StandFor hull s → StandFor result (fold span_hull s
-        (spans_with N p (standing q (spans_of (unpacked left.now.at))) right.now spot.place spot.value spot.cells
-        (length p.reverse.states))) }
+        (spans_with N p (standing q (spans_of (unpacked (lanes_of N left.now)))) right.now spot.place spot.value
+        spot.cells (length p.reverse.states))) }
 {
     if !left.is_some() {
         return hull;
@@ -118,16 +122,17 @@ fn with_state<const N: usize>(
     right: &PackedRow<N>,
     spot: Spot,
 ) -> Ends
-    requires registers { 6 ≤ N }
+    requires registers { 6 ≤ lane_count N }
     requires lanes { N ≤ 64 }
+    requires alone { (sides N ≡ BothEnds) ⊎ (joints.now.wide ≡ false) }
     requires operator { operator ≡ joints.now.result }
     requires state { q < joints.now.left_states }
-    requires left { AreSome N left.now.at }
+    requires left { AreSome (lane_count N) (lanes_of N left.now) }
     requires right { HasPlace N joints.now.right_states spot.place right.now }
     requires value { IsCellValue spot.value }
     ensures { (p : Pair) (s : Span) → AreJoints p joints.now → StandFor hull s → StandFor result (fold span_hull s
-        (spans_with N p (standing q (spans_of (unpacked left.now.at))) right.now spot.place spot.value spot.cells
-        (length p.reverse.states))) }
+        (spans_with N p (standing q (spans_of (unpacked (lanes_of N left.now)))) right.now spot.place spot.value
+        spot.cells (length p.reverse.states))) }
 {
     let mut all = hull;
     for r in 0..joints.right_states {
@@ -157,17 +162,18 @@ fn with_pair<const N: usize>(
     right: &PackedHull<N>,
     spot: Spot,
 ) -> Ends
-    requires registers { 6 ≤ N }
+    requires registers { 6 ≤ lane_count N }
     requires lanes { N ≤ 64 }
+    requires alone { (sides N ≡ BothEnds) ⊎ (joints.now.wide ≡ false) }
     requires operator { operator ≡ joints.now.result }
     requires state { q < joints.now.left_states }
     requires other { r < joints.now.right_states }
-    requires left { AreSome N left.now.at }
-    requires right { IsPacked N right.now.at }
+    requires left { AreSome (lane_count N) (lanes_of N left.now) }
+    requires right { IsPacked (lane_count N) (lanes_of N right.now) }
     requires value { IsCellValue spot.value }
     ensures { (p : Pair) (s : Span) → AreJoints p joints.now → StandFor hull s → StandFor result (span_hull s
-        (glued_span p (standing q (spans_of (unpacked left.now.at))) (standing r (spans_of (unpacked right.now.at)))
-        spot.value spot.cells)) }
+        (glued_seen (sides N) p (standing q (spans_of (unpacked (lanes_of N left.now))))
+        (standing r (spans_of (unpacked (lanes_of N right.now)))) spot.value spot.cells)) }
 {
     if !right.is_some() {
         return hull;
@@ -178,8 +184,9 @@ fn with_pair<const N: usize>(
 
 /// The hull of the finish spans of all states, at place `i` of the values of the last cell, of a series of `n` cells.
 pub fn finish_at<const N: usize>(a: &Automaton, row: &PackedRow<N>, i: usize, n: u32) -> Span
-    requires registers { 6 ≤ N }
+    requires registers { 6 ≤ lane_count N }
     requires lanes { N ≤ 64 }
+    requires alone { (sides N ≡ BothEnds) ⊎ (a.now.wide ≡ false) }
     requires row { HasPlace N (length a.now.states) i row.now }
     ensures { result ≡ finish_hull N a.now row.now i n }
 {
@@ -192,11 +199,12 @@ pub fn finish_at<const N: usize>(a: &Automaton, row: &PackedRow<N>, i: usize, n:
 
 /// A hull with the finish span of one state added, if any series reaches it.
 fn with_finish<const N: usize>(hull: Ends, a: &Automaton, h: &PackedHull<N>, n: u32) -> Ends
-    requires registers { 6 ≤ N }
+    requires registers { 6 ≤ lane_count N }
     requires lanes { N ≤ 64 }
-    requires packed { IsPacked N h.now.at }
+    requires alone { (sides N ≡ BothEnds) ⊎ (a.now.wide ≡ false) }
+    requires packed { IsPacked (lane_count N) (lanes_of N h.now) }
     ensures { (q : ℕ) (s : Span) → StandFor hull s → StandFor result (span_hull s
-        (finish_span_of a.now (standing q (spans_of (unpacked h.now.at))) n)) }
+        (finish_seen (sides N) a.now (standing q (spans_of (unpacked (lanes_of N h.now)))) n)) }
 {
     if !h.is_some() {
         return hull;
@@ -204,8 +212,6 @@ fn with_finish<const N: usize>(hull: Ends, a: &Automaton, h: &PackedHull<N>, n: 
     let finish = Tree {
         expr: a.finish_expr(),
     };
-    joined(
-        hull,
-        marked(a.mark(), finish.ends::<PackedHull<N>>(*h, 0), n),
-    )
+    let ends = shown::<N>(finish.ends::<PackedHull<N>>(*h, 0));
+    joined(hull, marked(a.mark(), ends, n))
 }

@@ -14,11 +14,13 @@ ghost use Rattle.ts_meet.specs.Joints.{AreJoints};
 ghost use Rattle.ts_meet.specs.Meets.{glued_hull};
 ghost use Rattle.ts_meet.specs.Settled.{AlwaysReaches, ArePlaces, Between, HavePlaces};
 ghost use Rattle.ts_meet.specs.Settled.{IsSettled, IsSettledBy, IsSettledBySome, with_hull};
+ghost use Rattle.ts_row.specs.Rows.{lanes_of};
 ghost use Rattle.ts_sweep.specs.Packed.{AreSome, IsPacked};
+ghost use Rattle.ts_sweep.specs.Sides.{BothEnds, lane_count, sides};
 
 use crate::asked::Asked;
 use crate::joints::Joints;
-use crate::lane::{End, apart_lane};
+use crate::lane::{End, apart_lane, keeps};
 use crate::marked::marked;
 use crate::needed::Needed;
 use ts_automaton::{Mark, Op};
@@ -36,8 +38,9 @@ pub fn settled_to<Q: Asked, const N: usize>(
     from: usize,
     to: usize,
 ) -> usize
-    requires registers { 6 ≤ N }
+    requires registers { 6 ≤ lane_count N }
     requires lanes { N ≤ 64 }
+    requires alone { (sides N ≡ BothEnds) ⊎ (joints.now.wide ≡ false) }
     requires left { HavePlaces N joints.now.left_states to left.now }
     requires right { HavePlaces N joints.now.right_states to right.now }
     requires order { from ≤ to }
@@ -62,8 +65,9 @@ fn settled_by<const N: usize>(
     from: usize,
     to: usize,
 ) -> usize
-    requires registers { 6 ≤ N }
+    requires registers { 6 ≤ lane_count N }
     requires lanes { N ≤ 64 }
+    requires alone { (sides N ≡ BothEnds) ⊎ (joints.now.wide ≡ false) }
     requires left { HavePlaces N joints.now.left_states to left.now }
     requires right { HavePlaces N joints.now.right_states to right.now }
     requires order { from ≤ to }
@@ -90,8 +94,9 @@ fn settled_on<const N: usize>(
     from: usize,
     to: usize,
 ) -> usize
-    requires registers { 6 ≤ N }
+    requires registers { 6 ≤ lane_count N }
     requires lanes { N ≤ 64 }
+    requires alone { (sides N ≡ BothEnds) ⊎ (joints.now.wide ≡ false) }
     requires left { HavePlaces N joints.now.left_states to left.now }
     requires right { HavePlaces N joints.now.right_states to right.now }
     requires order { from ≤ to }
@@ -134,8 +139,9 @@ fn settled_in<const N: usize>(
     from: usize,
     to: usize,
 ) -> usize
-    requires registers { 6 ≤ N }
+    requires registers { 6 ≤ lane_count N }
     requires lanes { N ≤ 64 }
+    requires alone { (sides N ≡ BothEnds) ⊎ (joints.now.wide ≡ false) }
     requires left { HavePlaces N joints.now.left_states to left.now }
     requires right { HavePlaces N joints.now.right_states to right.now }
     requires order { from ≤ to }
@@ -167,8 +173,9 @@ fn settled_with<const N: usize>(
     from: usize,
     to: usize,
 ) -> usize
-    requires registers { 6 ≤ N }
+    requires registers { 6 ≤ lane_count N }
     requires lanes { N ≤ 64 }
+    requires alone { (sides N ≡ BothEnds) ⊎ (joints.now.wide ≡ false) }
     requires state { q < joints.now.left_states }
     requires left { ArePlaces N to left.now }
     requires right { HavePlaces N joints.now.right_states to right.now }
@@ -202,8 +209,9 @@ fn settled_between<const N: usize>(
     from: usize,
     to: usize,
 ) -> usize
-    requires registers { 6 ≤ N }
+    requires registers { 6 ≤ lane_count N }
     requires lanes { N ≤ 64 }
+    requires alone { (sides N ≡ BothEnds) ⊎ (joints.now.wide ≡ false) }
     requires state { q < joints.now.left_states }
     requires other { r < joints.now.right_states }
     requires left { ArePlaces N to left.now }
@@ -237,8 +245,9 @@ fn settled_by_operator<const N: usize>(
     from: usize,
     to: usize,
 ) -> usize
-    requires registers { 6 ≤ N }
+    requires registers { 6 ≤ lane_count N }
     requires lanes { N ≤ 64 }
+    requires alone { (sides N ≡ BothEnds) ⊎ (joints.now.wide ≡ false) }
     requires wide { wide ≡ joints.now.wide }
     requires left { ArePlaces N to left.now }
     requires right { ArePlaces N to right.now }
@@ -269,8 +278,9 @@ fn settled_apart<const N: usize>(
     from: usize,
     to: usize,
 ) -> usize
-    requires registers { 6 ≤ N }
+    requires registers { 6 ≤ lane_count N }
     requires lanes { N ≤ 64 }
+    requires alone { (sides N ≡ BothEnds) ⊎ (joints.now.wide ≡ false) }
     requires operator { operator ≡ joints.now.result }
     requires wide { wide ≡ joints.now.wide }
     requires left { ArePlaces N to left.now }
@@ -301,40 +311,22 @@ fn settles<const N: usize>(
     right: &PackedHull<N>,
     cells: u32,
 ) -> bool
-    requires registers { 6 ≤ N }
+    requires registers { 6 ≤ lane_count N }
     requires lanes { N ≤ 64 }
+    requires alone { (sides N ≡ BothEnds) ⊎ (joints.now.wide ≡ false) }
     requires operator { operator ≡ joints.now.result }
     requires wide { wide ≡ joints.now.wide }
-    requires left { IsPacked N left.now.at }
-    requires right { IsPacked N right.now.at }
+    requires left { IsPacked (lane_count N) (lanes_of N left.now) }
+    requires right { IsPacked (lane_count N) (lanes_of N right.now) }
     ensures { IsTrue result → (p : Pair) (q r : ℕ) → AreJoints p joints.now → is_join p.table q r ≡ false →
-        AlwaysReaches (needed_ends needed) p (with_hull N q left.now) (with_hull N r right.now) cells }
+        AlwaysReaches (sides N) (needed_ends needed) p (with_hull N q left.now) (with_hull N r right.now) cells }
 {
-    left.is_some()
-        && right.is_some()
-        && some_settle(needed, joints, operator, wide, left, right, cells)
-}
-
-/// Whether the span of the answers of both runs reaches the ends that are needed, where both states are reached.
-#[inline(always)]
-fn some_settle<const N: usize>(
-    needed: Needed,
-    joints: &Joints,
-    operator: Op,
-    wide: bool,
-    left: &PackedHull<N>,
-    right: &PackedHull<N>,
-    cells: u32,
-) -> bool
-    requires registers { 6 ≤ N }
-    requires lanes { N ≤ 64 }
-    requires operator { operator ≡ joints.now.result }
-    requires wide { wide ≡ joints.now.wide }
-    requires left { AreSome N left.now.at }
-    requires right { AreSome N right.now.at }
-    ensures { IsTrue result → (p : Pair) (q r : ℕ) → AreJoints p joints.now → is_join p.table q r ≡ false →
-        AlwaysReaches (needed_ends needed) p (with_hull N q left.now) (with_hull N r right.now) cells }
-{
+    if !left.is_some() {
+        return false;
+    }
+    if !right.is_some() {
+        return false;
+    }
     match needed {
         Needed::Both(e) => answers_settle(e, joints, operator, left, right, cells),
         Needed::One(end, x) => end_settles(end, x, joints, operator, wide, left, right),
@@ -342,6 +334,7 @@ fn some_settle<const N: usize>(
 }
 
 /// Whether an end of the span of the answers of both runs reaches the one that is given, where both states are reached.
+/// Nothing is known of an end that the hulls haven't.
 #[inline(always)]
 fn end_settles<const N: usize>(
     end: End,
@@ -352,15 +345,19 @@ fn end_settles<const N: usize>(
     left: &PackedHull<N>,
     right: &PackedHull<N>,
 ) -> bool
-    requires registers { 6 ≤ N }
+    requires registers { 6 ≤ lane_count N }
+    requires alone { (sides N ≡ BothEnds) ⊎ (joints.now.wide ≡ false) }
     requires operator { operator ≡ joints.now.result }
     requires wide { wide ≡ joints.now.wide }
-    requires left { AreSome N left.now.at }
-    requires right { AreSome N right.now.at }
+    requires left { AreSome (lane_count N) (lanes_of N left.now) }
+    requires right { AreSome (lane_count N) (lanes_of N right.now) }
     ensures { IsTrue result → (p : Pair) (q r cells : ℕ) → AreJoints p joints.now → is_join p.table q r ≡ false →
         cells ≤ 4294967295 →
-        AlwaysReaches (end_alone end given) p (with_hull N q left.now) (with_hull N r right.now) cells }
+        AlwaysReaches (sides N) (end_alone end given) p (with_hull N q left.now) (with_hull N r right.now) cells }
 {
+    if !keeps::<N>(end) {
+        return false;
+    }
     reaches_under(
         joints.mark,
         apart_lane(end, wide, operator, left, right),
@@ -387,8 +384,9 @@ fn is_same(mark: Mark) -> bool
     }
 }
 
-/// Whether the span of the answers of both runs reaches the ends that are enough, where both states are reached.
-#[inline(always)]
+/// Whether the span of the answers of both runs reaches the ends that are enough, where both states are reached. It is
+/// long, and rare beside questions about one end, which would not be put in place with it.
+#[inline(never)]
 fn answers_settle<const N: usize>(
     enough: Ends,
     joints: &Joints,
@@ -397,13 +395,14 @@ fn answers_settle<const N: usize>(
     right: &PackedHull<N>,
     cells: u32,
 ) -> bool
-    requires registers { 6 ≤ N }
+    requires registers { 6 ≤ lane_count N }
     requires lanes { N ≤ 64 }
+    requires alone { (sides N ≡ BothEnds) ⊎ (joints.now.wide ≡ false) }
     requires operator { operator ≡ joints.now.result }
-    requires left { AreSome N left.now.at }
-    requires right { AreSome N right.now.at }
+    requires left { AreSome (lane_count N) (lanes_of N left.now) }
+    requires right { AreSome (lane_count N) (lanes_of N right.now) }
     ensures { IsTrue result → (p : Pair) (q r : ℕ) → AreJoints p joints.now → is_join p.table q r ≡ false →
-        AlwaysReaches enough p (with_hull N q left.now) (with_hull N r right.now) cells }
+        AlwaysReaches (sides N) enough p (with_hull N q left.now) (with_hull N r right.now) cells }
 {
     let glued = joints.apart(operator).glued(left, right);
     reaches(marked(joints.mark, glued, cells), enough)

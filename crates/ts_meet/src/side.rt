@@ -1,14 +1,18 @@
 //! The registers on one side of a cell.
 
-ghost use Rattle.std.specs.Prelude.{◌≡◌, ◌≤◌, pos, true};
+ghost use Rattle.std.specs.Prelude.{◌≡◌, ◌≤◌, ◌<ℤ◌, pos, true};
 ghost use Rattle.ts_automaton.specs.Registers.{value_in};
 ghost use Rattle.ts_glue.specs.Glue.{held_in, open_in};
-ghost use Rattle.ts_meet.specs.Sides.{ends_in, side_of};
+ghost use Rattle.ts_meet.specs.Sides.{ends_in, pointed_ends, shown_ends, side_of, turned};
+ghost use Rattle.ts_row.specs.Rows.{lanes_of};
 ghost use Rattle.ts_sweep.specs.Fronts.{ArePlain};
+ghost use Rattle.ts_sweep.specs.Lanes.{least};
+ghost use Rattle.ts_sweep.specs.Packed.{AreSome, name_ends};
+ghost use Rattle.ts_sweep.specs.Sides.{lane_count, sides};
 
 use crate::sums::Sums;
 use ts_glue::Part;
-use ts_sweep::packed::{Ends, Name, Packed, PackedHull};
+use ts_sweep::packed::{Ends, LOWER, Name, Packed, PackedHull, UPPER};
 
 /// The greatest number in ends that are added without a clamp.
 const PLAIN: i64 = 10_000_000_000_000_000;
@@ -24,18 +28,19 @@ pub(crate) struct Side {
 }
 
 impl Side {
-    /// The ends of the registers in a packed hull.
+    /// The ends of the registers in a packed hull. An end that it hasn't is read as the one that it has.
     #[inline(always)]
     pub(crate) fn of<const N: usize>(h: &PackedHull<N>) -> Side
-        requires registers { 6 ≤ N }
-        ensures { ends_in result ≡ side_of h.now.at }
+        requires registers { 6 ≤ lane_count N }
+        requires some { AreSome (lane_count N) (lanes_of N h.now) }
+        ensures { ends_in result ≡ side_of (sides N) (lanes_of N h.now) }
     {
         Side {
-            c: h.ends(Name::C),
-            e: h.ends(Name::E),
-            d: h.ends(Name::D),
-            f: h.ends(Name::F),
-            r: h.ends(Name::R),
+            c: register_of(h, Name::C),
+            e: register_of(h, Name::E),
+            d: register_of(h, Name::D),
+            f: register_of(h, Name::F),
+            r: register_of(h, Name::R),
         }
     }
 
@@ -59,6 +64,67 @@ impl Side {
             Part::Whole => self.d,
             Part::Away => self.f,
         }
+    }
+}
+
+/// The ends of a register in a packed hull, where an end that it hasn't is read as the one that it has.
+#[inline(always)]
+fn register_of<const N: usize>(h: &PackedHull<N>, register: Name) -> Ends
+    requires registers { 6 ≤ lane_count N }
+    requires some { AreSome (lane_count N) (lanes_of N h.now) }
+    ensures { result ≡ pointed_ends (sides N) (name_ends (lanes_of N h.now) register) }
+{
+    pointed::<N>(h.ends(register))
+}
+
+/// The ends of a single number or infinity, from the one that a hull of N lanes has; where it has both, all of them.
+#[inline(always)]
+fn pointed<const N: usize>(e: Ends) -> Ends
+    requires below { least <ℤ e.below }
+    requires above { least <ℤ e.above }
+    ensures { result ≡ pointed_ends (sides N) e }
+{
+    if N == UPPER {
+        Ends {
+            below: turned(e.above),
+            above: e.above,
+        }
+    } else if N == LOWER {
+        Ends {
+            below: e.below,
+            above: turned(e.below),
+        }
+    } else {
+        e
+    }
+}
+
+/// An end in the lane of the other end.
+#[inline(always)]
+fn turned(x: i64) -> i64
+    requires { least <ℤ x }
+    ensures { result ≡ turned x }
+{
+    -x
+}
+
+/// Ends where one that a hull of N lanes hasn't is infinite again.
+#[inline(always)]
+pub(crate) fn shown<const N: usize>(e: Ends) -> Ends
+    ensures { result ≡ shown_ends (sides N) e }
+{
+    if N == UPPER {
+        Ends {
+            below: i64::MAX,
+            above: e.above,
+        }
+    } else if N == LOWER {
+        Ends {
+            below: e.below,
+            above: i64::MAX,
+        }
+    } else {
+        e
     }
 }
 

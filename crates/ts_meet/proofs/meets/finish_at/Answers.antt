@@ -1,7 +1,7 @@
 use Rattle.std.proofs.Common.{◌≡◌, ◌<◌, sym, ap, subst, ◌∙◌, length, arith}
-use Rattle.ts_automaton.specs.SpanRun.{finish_span_of}
 use Rattle.ts_base.specs.Spans.{none_span, span_hull}
-use Rattle.ts_meet.specs.Meets.{finishes_in, hull_of_spans}
+use Rattle.ts_sweep.specs.Sides.{sides}
+use Rattle.ts_meet.specs.Meets.{finish_seen, finishes_in, hull_of_spans}
 use Rattle.ts_meet.specs.Sides.{StandFor}
 use Rattle.ts_meet.proofs.Meeting.{finishes_more, finishes_none, standing_there}
 use Rattle.ts_meet.proofs.meets.finish_at.Goals as goal
@@ -17,7 +17,7 @@ loop-q-preserved g c =
     let below : q < length a.states = omega (arith, c.loop-q-test.true, c.states-q-end.ensures.count) in
     let before = hull_of_spans (finishes_in g.row.N a row c.args.i c.args.n q) in
     subst (StandFor c.with_finish-hull.result)
-    (ap (λ z. span_hull before (finish_span_of a z c.args.n))
+    (ap (λ z. span_hull before (finish_seen (sides g.row.N) a z c.args.n))
     (standing_there g.row.N row q c.args.i _ c.index-column-i.result c.column.ensures (c.requires.row.inside q below) c.index-column-i.is)
     ∙ sym (finishes_more g.row.N a row c.args.i c.args.n q none_span))
     (c.with_finish-hull.ensures q before c.loop-q.invariant)

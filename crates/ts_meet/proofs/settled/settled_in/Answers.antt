@@ -11,7 +11,7 @@ pub settled_with-at-requires : goal.settled_with-at-requires
 settled_with-at-requires g c =
     let below : c.loop-q.q < c.args.joints.now.left_states = omega (arith, c.loop-q-test.true, c.loop-q.auto.q-end) in
     let places = subst (ArePlaces g.row.N c.args.to) (sym c.column.ensures) (c.requires.left.places c.loop-q.q below) in
-    (search rules, (search rules, (c.requires.registers, (c.requires.lanes, (below, (places, (c.requires.right, c.loop-q.invariant.1)))))))
+    (search rules, (search rules, (c.requires.registers, (c.requires.lanes, (c.requires.alone, (below, (places, (c.requires.right, c.loop-q.invariant.1))))))))
 
 pub loop-q-preserved : goal.loop-q-preserved
 loop-q-preserved g c =

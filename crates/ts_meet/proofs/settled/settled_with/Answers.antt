@@ -11,7 +11,8 @@ pub settled_between-at-requires : goal.settled_between-at-requires
 settled_between-at-requires g c =
     let below : c.loop-r.r < c.args.joints.now.right_states = omega (arith, c.loop-r-test.true, c.loop-r.auto.r-end) in
     let places = subst (ArePlaces g.row.N c.args.to) (sym c.column.ensures) (c.requires.right.places c.loop-r.r below) in
-    (search rules, (c.requires.registers, (c.requires.lanes, (c.requires.state, (below, (c.requires.left, (places, c.loop-r.invariant.1)))))))
+    let given = c.requires in
+    (search rules, (given.registers, (given.lanes, (given.alone, (given.state, (below, (given.left, (places, c.loop-r.invariant.1))))))))
 
 pub loop-r-preserved : goal.loop-r-preserved
 loop-r-preserved g c =

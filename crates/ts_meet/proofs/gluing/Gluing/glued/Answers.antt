@@ -1,37 +1,17 @@
 use Rattle.std.proofs.Common.{sym, subst}
 use Rattle.ts_automaton.specs.Registers.{spans_of}
-use Rattle.ts_sweep.specs.Packed.{unpacked}
+use Rattle.ts_glue.specs.Glue.{glue_in}
+use Rattle.ts_hull.specs.Sealed.{sealed_spans}
+use Rattle.ts_row.specs.Rows.{lanes_of}
+use Rattle.ts_sweep.specs.Packed.{IsPackOf, unpacked}
+use Rattle.ts_sweep.specs.Sides.{seen, sides}
 use Rattle.ts_meet.specs.Joints.{expression}
-use Rattle.ts_meet.specs.SideLaws.{cell_packs, clamped_packs, plain_packs}
-use Rattle.ts_meet.specs.Sides.{AreSomeEnds, ArePackOf, TakesAny, TakesPlain, clamped_values, ends_in, plain_values}
-use Rattle.ts_meet.proofs.Gluings.{any_takes, glued_packs, plain_takes}
-use Rattle.ts_meet.proofs.Meeting.{lanes_pack, lanes_some}
+use Rattle.ts_meet.proofs.SeenGlue.{shown_glued}
 use Rattle.ts_meet.proofs.gluing.Gluing.glued.Goals as goal
 
-pub glued_by-requires-clause-fits : goal.glued_by-requires-clause-fits
-glued_by-requires-clause-fits g c =
-    let xs = c.args.left.now.at in let ys = c.args.right.now.at in
-    plain_takes (ends_in c.of-first.result) (ends_in c.of-second.result)
-    (subst AreSomeEnds (sym c.of-first.ensures) (lanes_some g.row.N xs c.requires.registers c.requires.left))
-    (subst AreSomeEnds (sym c.of-second.ensures) (lanes_some g.row.N ys c.requires.registers c.requires.right)) c.args.self c.requires.worth
-    (c.is_plain.ensures c.if-is_plain.true)
-
-pub returns-then-is_plain : goal.returns-then-is_plain
-returns-then-is_plain g c =
-    let xs = c.args.left.now.at in let ys = c.args.right.now.at in
-    let a = ends_in c.of-first.result in let b = ends_in c.of-second.result in
-    glued_packs plain_values TakesPlain cell_packs plain_packs c.args.self a b c.requires.worth
-    (plain_takes a b (subst AreSomeEnds (sym c.of-first.ensures) (lanes_some g.row.N xs c.requires.registers c.requires.left))
-    (subst AreSomeEnds (sym c.of-second.ensures) (lanes_some g.row.N ys c.requires.registers c.requires.right)) c.args.self c.requires.worth
-    (c.is_plain.ensures c.if-is_plain.true)) c.glued_by.result c.glued_by.ensures (spans_of (unpacked xs)) (spans_of (unpacked ys))
-    (subst (λ z. ArePackOf z (spans_of (unpacked xs))) (sym c.of-first.ensures) (lanes_pack g.row.N xs c.requires.registers c.requires.left))
-    (subst (λ z. ArePackOf z (spans_of (unpacked ys))) (sym c.of-second.ensures) (lanes_pack g.row.N ys c.requires.registers c.requires.right))
-
-pub returns-then-self : goal.returns-then-self
-returns-then-self g c =
-    let xs = c.args.left.now.at in let ys = c.args.right.now.at in
-    let a = ends_in c.of-first.result in let b = ends_in c.of-second.result in
-    glued_packs clamped_values TakesAny cell_packs (λ o x y s t h p q. clamped_packs o x y s t p q) c.args.self a b c.requires.worth
-    (any_takes clamped_values a b (expression c.args.self)) c.glued_by-then-self.result c.glued_by-then-self.ensures (spans_of (unpacked xs)) (spans_of (unpacked ys))
-    (subst (λ z. ArePackOf z (spans_of (unpacked xs))) (sym c.of-first.ensures) (lanes_pack g.row.N xs c.requires.registers c.requires.left))
-    (subst (λ z. ArePackOf z (spans_of (unpacked ys))) (sym c.of-second.ensures) (lanes_pack g.row.N ys c.requires.registers c.requires.right))
+pub returns : goal.returns
+returns g c =
+    let s = sides g.row.N in
+    let left = spans_of (unpacked (lanes_of g.row.N c.args.left.now)) in let right = spans_of (unpacked (lanes_of g.row.N c.args.right.now)) in
+    subst (λ e. IsPackOf e (seen s (glue_in sealed_spans left right (expression c.args.self)))) (sym c.shown.ensures)
+    (shown_glued s c.args.self left right c.pointed.result c.requires.alone c.pointed.ensures)
