@@ -14,6 +14,7 @@ mod PackableLaws
 mod PutLaws
 pub mod SweptRows
 mod Starts
+pub mod SeenRows
 pub mod PackedRows
 pub mod ValueLaws
 mod CellLists

@@ -1,11 +1,11 @@
-//! Packed rows of hulls: that of a cell made from that of the cell before.
+//! Packed rows of hulls, or of one end of them: that of a cell made from that of the cell before.
 
 ghost use Rattle.std.specs.Prelude.{◌≡◌, ◌≤◌, ℤ, List, [], ◌∷◌, IfOk, length};
 ghost use Rattle.ts_bound.specs.PackedRows.{IsPackedRow};
 ghost use Rattle.ts_row.specs.Plans.{IsPlanOf};
 ghost use Rattle.ts_row.specs.Rows.{IsRow};
 ghost use Rattle.ts_row.specs.Takings.{count_in};
-ghost use Rattle.ts_sweep.specs.Packed.{is_wide};
+ghost use Rattle.ts_sweep.specs.Sides.{has_wide, lane_count};
 
 use std::alloc::Global;
 use ts_automaton::Automaton;
@@ -19,8 +19,8 @@ pub fn first_packed_row<const N: usize>(
     values: Cell<'_>,
     row: &mut PackedRow<N>,
 ) -> Result<(), Memory>
-    requires width { a.now.wide ≡ is_wide N }
-    requires registers { 6 ≤ N }
+    requires width { a.now.wide ≡ has_wide N }
+    requires registers { 6 ≤ lane_count N }
     requires lanes { N ≤ 64 }
     ensures { IfOk result (λ u. IsPackedRow N a.now [] values.entry.values.now row.new) }
 {
@@ -39,14 +39,16 @@ pub fn next_packed_row<const N: usize>(
     next_values: Cell<'_>,
     next: &mut PackedRow<N>,
 ) -> Result<(), Memory>
-    requires width { a.now.wide ≡ is_wide N }
-    requires registers { 6 ≤ N }
+    requires width { a.now.wide ≡ has_wide N }
+    requires registers { 6 ≤ lane_count N }
     requires lanes { N ≤ 64 }
     requires plan { IsPlanOf a.now plan.now }
     requires row { IsRow N (length a.now.states) (count_in values) before.now }
     ensures { IfOk result (λ u. (cells : List (List ℤ)) → IsPackedRow N a.now cells values.entry.values.now before.now →
         IsPackedRow N a.now (values.entry.values.now ∷ cells) next_values.entry.values.now next.new) }
 {
+    // the ends that are kept need no others, by the rules, which each call on an automaton promises
+    a.states();
     next_row(alloc, a, plan, values, before, next_values, next)?;
     Ok(())
 }

@@ -3,7 +3,8 @@ use Rattle.ts_automaton.specs.Body.{move_of}
 use Rattle.ts_automaton.specs.Formula.{is_zero}
 use Rattle.ts_automaton.specs.Registers.{rests}
 use Rattle.ts_sweep.specs.Moves.{of_width}
-use Rattle.ts_sweep.specs.Packed.{is_wide}
+use Rattle.ts_sweep.specs.Sides.{has_wide}
+use Rattle.ts_sweep.specs.SidesLaws.{full_wide}
 use Rattle.ts_sweep.proofs.Widths.{width_cut}
 use Rattle.ts_bound.specs.Moves.{states_in}
 use Rattle.ts_bound.proofs.PutLaws.{swept_move}
@@ -13,8 +14,9 @@ pub returns-clause-taken : goal.returns-clause-taken
 returns-clause-taken g c e =
     let m = c.args.m.now in
     let move = move_of c.args.t.now in
-    let wide = is_wide g.row.N in
-    let cut = width_cut wide move (subst (λ w. rests is_zero w move.to ≡ true) (sym c.requires.width) c.requires.rests)
+    let wide = has_wide g.row.N in
+    let cut = width_cut wide move
+    (subst (λ w. rests is_zero w move.to ≡ true) (sym (full_wide g.row.N c.requires.registers ∙ c.requires.width)) c.requires.rests)
     ∙ ap (of_width wide) (sym c.in-Some.ensures.1) in
     swept_move move c.args.l c.states-states.result (states_in m) c.args.q m.values.count m.next_values.count
     m.values.domain.now m.before.now m.next_values.domain.now c.args.next.now c.take_row.new.next
