@@ -8,7 +8,7 @@ ghost use Rattle.ts_domain.specs.BoxSeries.{IsCell, cell_of};
 ghost use Rattle.ts_glue.specs.Machines.{forward_of, pair_of, reverse_of};
 ghost use Rattle.ts_meet.specs.Meets.{HasPlace};
 ghost use Rattle.ts_row.specs.Rows.{IsRow};
-ghost use Rattle.ts_sweep.specs.Packed.{is_wide};
+ghost use Rattle.ts_sweep.specs.Sides.{BothEnds, has_wide, lane_count, sides};
 
 use super::terms::{PAIRS, term_of};
 use super::told::{cells_of, looks_in, spans_at};
@@ -40,8 +40,8 @@ fn first_row<const N: usize>(
     a: &Automaton,
     cell: &Domain,
 ) -> Result<PackedRow<N>, Memory>
-    requires width { a.now.wide ≡ is_wide N }
-    requires registers { 6 ≤ N }
+    requires width { a.now.wide ≡ has_wide N }
+    requires registers { 6 ≤ lane_count N }
     requires lanes { N ≤ 64 }
     ensures { IfOk result (λ r. IsRow N (length a.now.states) (length cell.now) r) }
 {
@@ -58,8 +58,8 @@ fn row_after<const N: usize>(
     cell: &Domain,
     next_cell: &Domain,
 ) -> Result<PackedRow<N>, Memory>
-    requires width { a.now.wide ≡ is_wide N }
-    requires registers { 6 ≤ N }
+    requires width { a.now.wide ≡ has_wide N }
+    requires registers { 6 ≤ lane_count N }
     requires lanes { N ≤ 64 }
     requires row { IsRow N (length a.now.states) (length cell.now) row.now }
     ensures { IfOk result (λ r. IsRow N (length a.now.states) (length next_cell.now) r) }
@@ -87,8 +87,8 @@ fn ahead_row<const N: usize>(
     cells: &Boxed,
     k: u32,
 ) -> Result<PackedRow<N>, Memory>
-    requires width { a.now.wide ≡ is_wide N }
-    requires registers { 6 ≤ N }
+    requires width { a.now.wide ≡ has_wide N }
+    requires registers { 6 ≤ lane_count N }
     requires lanes { N ≤ 64 }
     requires cell { IsCell k cells.now }
     ensures { IfOk result (λ r. IsRow N (length a.now.states) (length (cell_of k cells.now)) r) }
@@ -107,8 +107,8 @@ fn back_row<const N: usize>(
     cells: &Boxed,
     k: u32,
 ) -> Result<PackedRow<N>, Memory>
-    requires width { a.now.wide ≡ is_wide N }
-    requires registers { 6 ≤ N }
+    requires width { a.now.wide ≡ has_wide N }
+    requires registers { 6 ≤ lane_count N }
     requires lanes { N ≤ 64 }
     requires cell { IsCell k cells.now }
     ensures { IfOk result (λ r. IsRow N (length a.now.states) (length (cell_of k cells.now)) r) }
@@ -147,8 +147,9 @@ fn met<const N: usize>(
     right: &PackedRow<N>,
     spot: Spot,
 ) -> Option<Span>
-    requires registers { 6 ≤ N }
+    requires registers { 6 ≤ lane_count N }
     requires lanes { N ≤ 64 }
+    requires both { sides N ≡ BothEnds }
     requires left { HasPlace N joints.now.left_states spot.place left.now }
     requires right { HasPlace N joints.now.right_states spot.place right.now }
     requires value { IsCellValue spot.value }
@@ -190,11 +191,12 @@ fn span_in_lanes<const N: usize>(
     k: u32,
     i: u64,
 ) -> Result<Option<Span>, Fail>
-    requires registers { 6 ≤ N }
+    requires registers { 6 ≤ lane_count N }
     requires lanes { N ≤ 64 }
-    requires forward { (forward_of m.now).wide ≡ is_wide N }
+    requires both { sides N ≡ BothEnds }
+    requires forward { (forward_of m.now).wide ≡ has_wide N }
     requires reverse { reverse_of m.now ≡ Some reverse.now }
-    requires backward { reverse.now.wide ≡ is_wide N }
+    requires backward { reverse.now.wide ≡ has_wide N }
     requires cell { IsCell k cells.now }
     requires place { i < length (cell_of k cells.now) }
 {
@@ -232,9 +234,10 @@ fn end_in_lanes<const N: usize>(
     cells: &Boxed,
     i: u64,
 ) -> Result<Span, Memory>
-    requires width { a.now.wide ≡ is_wide N }
-    requires registers { 6 ≤ N }
+    requires width { a.now.wide ≡ has_wide N }
+    requires registers { 6 ≤ lane_count N }
     requires lanes { N ≤ 64 }
+    requires both { sides N ≡ BothEnds }
     requires cell { IsCell (length cells.now.present) cells.now }
     requires place { i < length (cell_of (length cells.now.present) cells.now) }
 {
