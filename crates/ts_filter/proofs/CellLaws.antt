@@ -11,14 +11,11 @@ use Rattle.ts_base.specs.Spans.{none_span, span_hull}
 use Rattle.ts_automaton.specs.declared.regs.Hull.{Hull}
 use Rattle.ts_automaton.specs.Body.{Body}
 use Rattle.ts_domain.specs.BoxSeries.{IsBox}
-use Rattle.ts_row.specs.Rows.{flat_row}
 use Rattle.ts_bound.specs.HullTables.{hulls_at, row_of, values_at}
-use Rattle.ts_bound.specs.PackedRows.{IsPackedRow}
 use Rattle.ts_bound.specs.TermSpans.{span_of_all}
 use Rattle.ts_bound.proofs.SpanEnds.{within_of}
 use Rattle.ts_bound.proofs.SpanRuns.{length-hulls_at}
 use Rattle.ts_filter.specs.Boxes.{Box}
-use Rattle.ts_filter.specs.AnyRows.{Columns}
 
 -- the hulls of one value in a row
 
@@ -33,22 +30,13 @@ part_at n f size (x ∷ vs) (suc i) v p at e =
     ap (λ q. take n (drop q (f x ++ flat_map f vs))) (sym further) ∙ ap (take n) (sym (drop-drop (p - n) n (f x ++ flat_map f vs)))
     ∙ ap (λ l. take n (drop (p - n) l)) (drop_at (f x) (flat_map f vs) n (size x)) ∙ part_at n f size vs i v (p - n) less e
 
-row_block : (a : Body) (before : Box) (values : List ℤ) (i : ℕ) (v : ℤ) (row hs : List Hull) (s : ℕ) → s ≡ length a.states → row ≡ row_of a before values →
+pub row_block : (a : Body) (before : Box) (values : List ℤ) (i : ℕ) (v : ℤ) (row hs : List Hull) (s : ℕ) → s ≡ length a.states → row ≡ row_of a before values →
     slice_get values i ≡ Some v → hs ≡ slice_range row (i * s) (i * s + s) → hs ≡ hulls_at a before v
 unfolding row_of
 row_block a before values i v row hs s is_s is e is_hs =
     let wide : i * s + s - i * s ≡ s = omega arith in
     is_hs ∙ ap (λ w. take w (drop (i * s) row)) wide ∙ ap (λ l. take s (drop (i * s) l)) is
     ∙ part_at s (hulls_at a before) (λ u. length-hulls_at a before u ∙ sym is_s) values i v (i * s) refl e
-
--- the same of a packed row, out of which the hulls were read
-
-pub ahead_block : (lanes : ℕ) (a : Body) (before : Box) (values : List ℤ) (i : ℕ) (v : ℤ) (row : Columns lanes) (hs : List Hull) (s n : ℕ) →
-    s ≡ length a.states → n ≡ length values → IsPackedRow lanes a before values row → slice_get values i ≡ Some v →
-    hs ≡ slice_range (flat_row lanes s n row) (i * s) (i * s + s) → hs ≡ hulls_at a before v
-ahead_block lanes a before values i v row hs s n is_s is_n is e is_hs =
-    row_block a before values i v (flat_row lanes s n row) hs s is_s
-    (ap (λ m. flat_row lanes m n row) is_s ∙ ap (λ m. flat_row lanes (length a.states) m row) is_n ∙ is.is_flat) e is_hs
 
 value_fits : (vs : List ℤ) (i : ℕ) (v : ℤ) → AllByRecursion IsCellValue vs → slice_get vs i ≡ Some v → IsCellValue v
 value_fits [] i v h e = absurd (none-some v e)
@@ -59,9 +47,6 @@ pub cell_value : (b : Box) (k i : ℕ) (v : ℤ) → IsBox b → 1 ≤ k → k �
 cell_value b k i v box some to e = value_fits (values_at k b) i v (within_of b (k - 1) (values_at k b) box (omega (arith, some, to)) refl) e
 
 -- the hull of the spans of the values so far
-
-pub span_begun : (f : ℤ → Span) (values : List ℤ) (span : Span) → span ≡ none_span → span ≡ span_of_all (map f (take 0 values))
-span_begun f values span e = e
 
 pub span_more : (f : ℤ → Span) (values : List ℤ) (i : ℕ) (v : ℤ) (span one both : Span) → i < length values → slice_get values i ≡ Some v → one ≡ f v →
     both ≡ span_hull span one → span ≡ span_of_all (map f (take i values)) → both ≡ span_of_all (map f (take (i + 1) values))

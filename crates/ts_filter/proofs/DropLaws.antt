@@ -12,6 +12,7 @@ use Rattle.ts_glue.specs.declared.machine.Machine.{Machine}
 use Rattle.ts_domain.specs.Values.{IsRising}
 use Rattle.ts_domain.proofs.Sets.{contains_cons, each_contains, nothing_in}
 use Rattle.ts_model.specs.declared.model.Require.{Require}
+use Rattle.ts_sweep.specs.Sides.{Sides}
 use Rattle.ts_filter.specs.declared.drops.Removal.{Removal}
 use Rattle.ts_filter.specs.declared.question.Question.{Question}
 use Rattle.ts_filter.specs.declared.term_requirements.TermRequirements.{TermRequirements}
@@ -100,27 +101,27 @@ module _ (rs : List Require) (term : ℕ) (a : Automata) (b : Box) (k : ℕ) whe
   all_left rises = record { inside = λ u c. c; rises = rises; ahead = there }
 
 -- values whose spans have what is asked are passed over
-module _ (rs : List Require) (term : ℕ) (a : Automata) (b : Box) (k : ℕ) (asked : Question) (tells : (s : Span) → Excludes asked s ↔ RefutesSome rs term s)
-  where
-    left_along : (d from : ℕ) → from + d ≤ length (values_at k b) → AreMet asked (at_cell a b k) from (from + d) →
-        AreLeft rs term a b k (drop from (values_at k b)) → AreLeft rs term a b k (drop (from + d) (values_at k b))
-    left_along zero from within met left = subst (λ i. AreLeft rs term a b k (drop i (values_at k b))) (let e : from ≡ from + 0 = omega arith in e) left
-    left_along (suc d) from within met left =
-        let all = values_at k b in let v = get_or all from (pos 0) in
-        let lt : from < length all = omega (arith, within) in
-        let is : slice_get all from ≡ Some v = slice_get-get_or all from (pos 0) lt in
-        let e : (from + 1) + d ≡ from + suc d = omega arith in
-        subst (λ i. AreLeft rs term a b k (drop i all)) e
-        (left_along d (from + 1) (omega (arith, within)) (λ i first last. met i (omega (arith, first)) (omega (arith, last)))
-        (fewer_left rs term a b k (drop from all) (drop (from + 1) all) v left (left_is all from v lt is)
-        (λ j h. met from (omega arith) (omega arith) v is ((tells (value_span a k b v)).1 (j, h)))))
+module _ (rs : List Require) (term : ℕ) (a : Automata) (b : Box) (k : ℕ) (ends : Sides) (asked : Question)
+    (tells : (s : Span) → Excludes asked s ↔ RefutesSome rs term s) where
+  left_along : (d from : ℕ) → from + d ≤ length (values_at k b) → AreMet asked (at_cell a b k ends) from (from + d) →
+      AreLeft rs term a b k (drop from (values_at k b)) → AreLeft rs term a b k (drop (from + d) (values_at k b))
+  left_along zero from within met left = subst (λ i. AreLeft rs term a b k (drop i (values_at k b))) (let e : from ≡ from + 0 = omega arith in e) left
+  left_along (suc d) from within met left =
+      let all = values_at k b in let v = get_or all from (pos 0) in
+      let lt : from < length all = omega (arith, within) in
+      let is : slice_get all from ≡ Some v = slice_get-get_or all from (pos 0) lt in
+      let e : (from + 1) + d ≡ from + suc d = omega arith in
+      subst (λ i. AreLeft rs term a b k (drop i all)) e
+      (left_along d (from + 1) (omega (arith, within)) (λ i first last. met i (omega (arith, first)) (omega (arith, last)))
+      (fewer_left rs term a b k (drop from all) (drop (from + 1) all) v left (left_is all from v lt is)
+      (λ j h. met from (omega arith) (omega arith) v is ((tells (value_span a k b v)).1 (j, h)))))
 
-    pub left_met : (from to : ℕ) → from ≤ to → to ≤ length (values_at k b) → AreMet asked (at_cell a b k) from to →
-        AreLeft rs term a b k (drop from (values_at k b)) → AreLeft rs term a b k (drop to (values_at k b))
-    left_met from to le within met left =
-        let e : from + (to - from) ≡ to = omega (arith, le) in
-        subst (λ i. AreLeft rs term a b k (drop i (values_at k b))) e
-        (left_along (to - from) from (omega (arith, e, within)) (subst (AreMet asked (at_cell a b k) from) (sym e) met) left)
+  pub left_met : (from to : ℕ) → from ≤ to → to ≤ length (values_at k b) → AreMet asked (at_cell a b k ends) from to →
+      AreLeft rs term a b k (drop from (values_at k b)) → AreLeft rs term a b k (drop to (values_at k b))
+  left_met from to le within met left =
+      let e : from + (to - from) ≡ to = omega (arith, le) in
+      subst (λ i. AreLeft rs term a b k (drop i (values_at k b))) e
+      (left_along (to - from) from (omega (arith, e, within)) (subst (AreMet asked (at_cell a b k ends) from) (sym e) met) left)
 
 module _ (rs : List Require) (term : ℕ) (a : Automata) (b : Box) where
   -- none at the first cells

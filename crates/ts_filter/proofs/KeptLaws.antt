@@ -20,7 +20,7 @@ use Rattle.ts_glue.specs.Pairs.{Pair}
 use Rattle.ts_filter.specs.Boxes.{Box, HasCell, values_at}
 use Rattle.ts_filter.specs.Ends.{best_end}
 use Rattle.ts_filter.specs.KeptValue.{IsPreferred, IsKeptOver, IsKept, end_with, end_in}
-use Rattle.ts_filter.specs.CellHulls.{AtCell, at_cell}
+use Rattle.ts_filter.specs.CellHulls.{AtCell}
 use Rattle.ts_filter.proofs.DropLaws.{rising_parts}
 use Rattle.ts_filter.proofs.Looked.{value_outside}
 
@@ -157,9 +157,12 @@ module _ (a : Automata) (goal : Goal) (k : ℕ) (b : Box) (v : ℤ) (looks : Loo
         le,
       )
 
-pub kept_by : (t : AtCell) (a : Automata) (b : Box) (goal : Goal) (k : ℕ) (v : ℤ) → LooksIn a b → t ≡ at_cell a b k → (a.pair ≡ None → ⊥) → HasCell k b →
-    Contains (values_at t.cell t.cells) v → ((u : ℤ) → Contains (values_at t.cell t.cells) u → IsPreferred goal (end_in t.machine goal t.cell t.cells) v u) →
-    IsKept a goal k b v
-kept_by t a b goal k v looks e n c there best =
-    kept_split a goal k b v looks n c (subst (λ z. Contains (values_at z.cell z.cells) v) e there)
-    (subst (λ z. (u : ℤ) → Contains (values_at z.cell z.cells) u → IsPreferred goal (end_in z.machine goal z.cell z.cells) v u) e best)
+pub kept_by : (t : AtCell) (a : Automata) (b : Box) (goal : Goal) (k : ℕ) (v : ℤ) → LooksIn a b → t.machine ≡ a → t.cells ≡ b → t.cell ≡ k →
+    (a.pair ≡ None → ⊥) → HasCell k b → Contains (values_at t.cell t.cells) v →
+    ((u : ℤ) → Contains (values_at t.cell t.cells) u → IsPreferred goal (end_in t.machine goal t.cell t.cells) v u) → IsKept a goal k b v
+kept_by t a b goal k v looks is_a is_b is_k n c there best =
+    kept_split a goal k b v looks n c
+    (subst (λ c. Contains (values_at k c) v) is_b (subst (λ j. Contains (values_at j t.cells) v) is_k there))
+    (subst (λ m. (u : ℤ) → Contains (values_at k b) u → IsPreferred goal (end_in m goal k b) v u) is_a
+    (subst (λ c. (u : ℤ) → Contains (values_at k c) u → IsPreferred goal (end_in t.machine goal k c) v u) is_b
+    (subst (λ j. (u : ℤ) → Contains (values_at j t.cells) u → IsPreferred goal (end_in t.machine goal j t.cells) v u) is_k best)))

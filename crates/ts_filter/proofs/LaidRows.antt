@@ -8,39 +8,37 @@ use Rattle.ts_automaton.specs.declared.regs.Hull.{Hull}
 use Rattle.ts_automaton.specs.Body.{Body}
 use Rattle.ts_base.specs.declared.range.Range.{Range}
 use Rattle.ts_base.specs.Windows.{looked_at}
-use Rattle.ts_bound.specs.HullTables.{forward_rows, row_of}
-use Rattle.ts_bound.specs.NextRow.{next_row}
+use Rattle.ts_bound.specs.HullTables.{row_of}
+use Rattle.ts_bound.specs.PackedRows.{seen_row}
 use Rattle.ts_bound.specs.TermSpans.{Automata}
-use Rattle.ts_bound.proofs.TableLaws.{row_on}
+use Rattle.ts_sweep.specs.Sides.{Sides}
 use Rattle.ts_filter.specs.declared.gone.Change.{Change}
 use Rattle.ts_filter.specs.declared.gone.Gone.{Gone}
 use Rattle.ts_filter.specs.declared.planned.Planned.{Planned}
+use Rattle.ts_filter.specs.AnyRows.{form_sides}
 use Rattle.ts_filter.specs.Boxes.{Box}
 use Rattle.ts_filter.specs.Gone.{AreLost}
 use Rattle.ts_filter.specs.KnownRows.{AreFirst, AreKnown, AreRows, AreRowsOf, AreBehind, GoOnBehind, IsChange, IsPlannedBack, KnownRows, StayKnown, StillKnown}
-use Rattle.ts_filter.specs.RowStacks.{Rows, Laid, Stack, IsFollowed, GoOn, IsPlanned, Stands, IsOneMore, IsCut, IsKnownAt, IsLeft, IsSpliced, no_rows, nothing_laid, with_row, without}
+use Rattle.ts_filter.specs.RowStacks.{Rows, Laid, Sight, Stack, IsFollowed, GoOn, IsPlanned, IsSound, Stands, IsOneMore, IsCut, IsKnownAt, IsLeft, IsSpliced, next_seen, no_rows, nothing_laid, rows_seen, seen_by, sight, with_row, without}
 use Rattle.ts_domain.proofs.Sets.{nothing_in}
 use Rattle.ts_glue.specs.Pairs.{Pair}
 use Rattle.ts_model.specs.declared.model.Require.{Require}
-use Rattle.ts_filter.proofs.KnownRows.{few_known, known_at, one_more, reverse_take, row_at_place, stay_first, turned_front}
+use Rattle.ts_filter.proofs.KnownRows.{few_known, known_at, one_more, reverse_take, row_at_place, row_on_seen, stay_first, turned_front}
 use Rattle.ts_filter.proofs.WithoutValues.{row_lost}
 
 -- rows that are known
 
-followed_by : (a : Body) (cells : Box) (rows : Rows) (i : ℕ) → i + 1 < length cells → get_or rows i [] ≡ get_or (forward_rows a cells) i [] →
-    get_or rows (i + 1) [] ≡ get_or (forward_rows a cells) (i + 1) [] → IsFollowed a cells rows i
-followed_by a cells rows i lt here there =
-    let on : i + 1 ≡ suc i = omega arith in
-    there ∙ ap (λ j. get_or (forward_rows a cells) j []) on ∙ row_on a [] cells i (omega (arith, lt))
-    ∙ ap (λ j. next_row a (get_or cells i []) (get_or (forward_rows a cells) i []) (get_or cells j [])) (sym on)
-    ∙ ap (λ r. next_row a (get_or cells i []) r (get_or cells (i + 1) [])) (sym here)
+followed_by : (a : Sight) → IsSound a → (cells : Box) (rows : Rows) (i : ℕ) → i + 1 < length cells →
+    get_or rows i [] ≡ get_or (rows_seen a cells) i [] → get_or rows (i + 1) [] ≡ get_or (rows_seen a cells) (i + 1) [] → IsFollowed a cells rows i
+followed_by a sound cells rows i lt here there =
+    there ∙ row_on_seen a sound cells i lt ∙ ap (λ r. next_seen a (get_or cells i []) r (get_or cells (i + 1) [])) (sym here)
 
-pub known_go_on : (a : Body) (cells : Box) (rows : Rows) (from : ℕ) → AreFirst a cells rows → GoOn a cells rows from
-known_go_on a cells rows from h =
+pub known_go_on : (a : Sight) → IsSound a → (cells : Box) (rows : Rows) (from : ℕ) → AreFirst a cells rows → GoOn a cells rows from
+known_go_on a sound cells rows from h =
     let few = few_known a cells rows h in
     record {
       few = few;
-      each = λ i le lt. followed_by a cells rows i (omega (arith, lt, few)) (known_at a cells rows i h (omega (arith, lt)))
+      each = λ i le lt. followed_by a sound cells rows i (omega (arith, lt, few)) (known_at a cells rows i h (omega (arith, lt)))
           (known_at a cells rows (i + 1) h lt);
     }
 
@@ -52,23 +50,23 @@ rest_at b later end i same le =
     ap (λ j. get_or later j []) (sym sum) ∙ sym (get_or-drop end later (i - end) []) ∙ ap (λ l. get_or l (i - end) []) same
     ∙ get_or-drop end b (i - end) [] ∙ ap (λ j. get_or b j []) sum
 
-pub still_go_on : (a : Body) (b later : Box) (rows : Rows) (from end next : ℕ) → GoOn a b rows from → length later ≡ length b → drop end later ≡ drop end b →
+pub still_go_on : (a : Sight) (b later : Box) (rows : Rows) (from end next : ℕ) → GoOn a b rows from → length later ≡ length b → drop end later ≡ drop end b →
     from ≤ next → end ≤ next → GoOn a later rows next
 still_go_on a b later rows from end next g count same le to = record {
   few = subst (λ n. length rows ≤ n) (sym count) g.few;
   each = λ i l lt.
       let here = rest_at b later end i same (omega (arith, to, l)) in let there = rest_at b later end (i + 1) same (omega (arith, to, l)) in
-      g.each i (omega (arith, le, l)) lt ∙ ap (λ v. next_row a v (get_or rows i []) (get_or b (i + 1) [])) (sym here)
-      ∙ ap (next_row a (get_or later i []) (get_or rows i [])) (sym there);
+      g.each i (omega (arith, le, l)) lt ∙ ap (λ v. next_seen a v (get_or rows i []) (get_or b (i + 1) [])) (sym here)
+      ∙ ap (next_seen a (get_or later i []) (get_or rows i [])) (sym there);
 }
 
-pub laid_stay : (a : Body) (b later : Box) (end : ℕ) (known : Rows) (old new : Laid) → AreFirst a b known → GoOn a b old.rows old.from →
+pub laid_stay : (a : Sight) → IsSound a → (b later : Box) (end : ℕ) (known : Rows) (old new : Laid) → AreFirst a b known → GoOn a b old.rows old.from →
     (known ≡ old.rows) ⊎ (old.from ≤ new.from) → new.rows ≡ old.rows → end ≤ new.from → length later ≡ length b → drop end later ≡ drop end b →
     GoOn a later new.rows new.from
-laid_stay a b later end known old new h g (inl all) is to count same =
+laid_stay a sound b later end known old new h g (inl all) is to count same =
     subst (λ r. GoOn a later r new.from) (sym is)
-    (still_go_on a b later old.rows 0 end new.from (subst (λ r. GoOn a b r 0) all (known_go_on a b known 0 h)) count same (omega arith) to)
-laid_stay a b later end known old new h g (inr le) is to count same =
+    (still_go_on a b later old.rows 0 end new.from (subst (λ r. GoOn a b r 0) all (known_go_on a sound b known 0 h)) count same (omega arith) to)
+laid_stay a sound b later end known old new h g (inr le) is to count same =
     subst (λ r. GoOn a later r new.from) (sym is) (still_go_on a b later old.rows old.from end new.from g count same le to)
 
 -- a row that is known, in the place of one that lay there before
@@ -89,7 +87,7 @@ row_count rows at row le =
     let l = length-append (take at rows) (row ∷ drop (at + 1) rows) in let t = length-take at rows in let d = length-drop (at + 1) rows in
     omega (arith, l, t, d, le)
 
-with_row_go_on : (a : Body) (cells : Box) (rows : Rows) (at : ℕ) (row : List Hull) (from next : ℕ) → GoOn a cells rows from → at ≤ length rows →
+with_row_go_on : (a : Sight) (cells : Box) (rows : Rows) (at : ℕ) (row : List Hull) (from next : ℕ) → GoOn a cells rows from → at ≤ length rows →
     at < length cells → from ≤ next → at < next → GoOn a cells (with_row at row rows) next
 with_row_go_on a cells rows at row from next g le lt to above =
     let few = g.few in let count = row_count rows at row le in
@@ -97,76 +95,80 @@ with_row_go_on a cells rows at row from next g le lt to above =
       few = omega (arith, count, few, lt);
       each = λ i l there.
           above_row rows at row (i + 1) le (omega (arith, l, above)) ∙ g.each i (omega (arith, to, l)) (omega (arith, there, count, l, above))
-          ∙ ap (λ r. next_row a (get_or cells i []) r (get_or cells (i + 1) [])) (sym (above_row rows at row i le (omega (arith, l, above))));
+          ∙ ap (λ r. next_seen a (get_or cells i []) r (get_or cells (i + 1) [])) (sym (above_row rows at row i le (omega (arith, l, above))));
     }
 
 -- a row that stood there before, from which the rows above go on
 
-more_known : (a : Body) (cells : Box) (rows : Rows) (from k : ℕ) → GoOn a cells rows from → from < k → k < length rows → AreFirst a cells (take k rows) →
-    AreFirst a cells (take (k + 1) rows)
-more_known a cells rows from k g le lt h =
+more_known : (a : Sight) → IsSound a → (cells : Box) (rows : Rows) (from k : ℕ) → GoOn a cells rows from → from < k → k < length rows →
+    AreFirst a cells (take k rows) → AreFirst a cells (take (k + 1) rows)
+more_known a sound cells rows from k g le lt h =
     let few = g.few in
     let long : length (take k rows) ≡ k = omega (arith, length-take k rows, lt) in
     let back : k - 1 + 1 ≡ k = omega (arith, le) in
-    let all = forward_rows a cells in
+    let all = rows_seen a cells in
     let here : get_or rows (k - 1) [] ≡ get_or all (k - 1) [] =
     sym (get_or-take k rows (k - 1) [] (omega (arith, le))) ∙ known_at a cells (take k rows) (k - 1) h (omega (arith, long, le)) in
     let step : get_or rows (k - 1 + 1) [] ≡ get_or all (k - 1 + 1) [] =
     g.each (k - 1) (omega (arith, le)) (omega (arith, back, lt))
-    ∙ ap (λ r. next_row a (get_or cells (k - 1) []) r (get_or cells (k - 1 + 1) [])) here
-    ∙ sym (on_row a cells (k - 1) (omega (arith, back, lt, few))) in
+    ∙ ap (λ r. next_seen a (get_or cells (k - 1) []) r (get_or cells (k - 1 + 1) [])) here
+    ∙ sym (row_on_seen a sound cells (k - 1) (omega (arith, back, lt, few))) in
     let row : get_or rows k [] ≡ get_or all (length (take k rows)) [] =
     ap (λ j. get_or rows j []) (sym back) ∙ step ∙ ap (λ j. get_or all j []) (back ∙ sym long) in
     subst (AreFirst a cells) (sym (take_more rows k [] lt))
     (one_more a cells (take k rows) (get_or rows k []) h (omega (arith, long, lt, few)) row)
-  where
-    on_row : (a : Body) (cells : Box) (i : ℕ) → i + 1 < length cells →
-        get_or (forward_rows a cells) (i + 1) [] ≡ next_row a (get_or cells i []) (get_or (forward_rows a cells) i []) (get_or cells (i + 1) [])
-    on_row a cells i lt =
-        let on : i + 1 ≡ suc i = omega arith in
-        ap (λ j. get_or (forward_rows a cells) j []) on ∙ row_on a [] cells i (omega (arith, lt))
-        ∙ ap (λ j. next_row a (get_or cells i []) (get_or (forward_rows a cells) i []) (get_or cells j [])) (sym on)
 
-known_up_to : (a : Body) (cells : Box) (rows : Rows) (from k d : ℕ) → GoOn a cells rows from → from < k → k + d ≤ length rows → AreFirst a cells (take k rows) →
+known_up_to : (a : Sight) → IsSound a → (cells : Box) (rows : Rows) (from k d : ℕ) → GoOn a cells rows from → from < k → k + d ≤ length rows →
+    AreFirst a cells (take k rows) →
     AreFirst a cells (take (k + d) rows)
-known_up_to a cells rows from k zero g le to h = let same : k ≡ k + 0 = omega arith in subst (λ m. AreFirst a cells (take m rows)) same h
-known_up_to a cells rows from k (suc d) g le to h =
+known_up_to a sound cells rows from k zero g le to h = let same : k ≡ k + 0 = omega arith in subst (λ m. AreFirst a cells (take m rows)) same h
+known_up_to a sound cells rows from k (suc d) g le to h =
     let same : k + d + 1 ≡ k + suc d = omega arith in
     subst (λ m. AreFirst a cells (take m rows)) same
-    (more_known a cells rows from (k + d) g (omega (arith, le)) (omega (arith, to)) (known_up_to a cells rows from k d g le (omega (arith, to)) h))
+    (more_known a sound cells rows from (k + d) g (omega (arith, le)) (omega (arith, to)) (known_up_to a sound cells rows from k d g le (omega (arith, to)) h))
 
-pub all_known : (a : Body) (cells : Box) (rows : Rows) (from k : ℕ) → GoOn a cells rows from → from ≤ k → k < length rows → AreFirst a cells (take k rows) →
-    get_or rows k [] ≡ get_or (forward_rows a cells) k [] → AreFirst a cells rows
-all_known a cells rows from k g le lt h is =
+pub all_known : (a : Sight) → IsSound a → (cells : Box) (rows : Rows) (from k : ℕ) → GoOn a cells rows from → from ≤ k → k < length rows →
+    AreFirst a cells (take k rows) →
+    get_or rows k [] ≡ get_or (rows_seen a cells) k [] → AreFirst a cells rows
+all_known a sound cells rows from k g le lt h is =
     let few = g.few in
     let long : length (take k rows) ≡ k = omega (arith, length-take k rows, lt) in
     let first : AreFirst a cells (take (k + 1) rows) =
     subst (AreFirst a cells) (sym (take_more rows k [] lt))
-    (one_more a cells (take k rows) (get_or rows k []) h (omega (arith, long, lt, few)) (is ∙ ap (λ j. get_or (forward_rows a cells) j []) (sym long))) in
+    (one_more a cells (take k rows) (get_or rows k []) h (omega (arith, long, lt, few)) (is ∙ ap (λ j. get_or (rows_seen a cells) j []) (sym long))) in
     let whole : k + 1 + (length rows - (k + 1)) ≡ length rows = omega (arith, lt) in
-    let up = known_up_to a cells rows from (k + 1) (length rows - (k + 1)) g (omega (arith, le)) (omega (arith, whole)) first in
+    let up = known_up_to a sound cells rows from (k + 1) (length rows - (k + 1)) g (omega (arith, le)) (omega (arith, whole)) first in
     subst (AreFirst a cells) (take_all (k + 1 + (length rows - (k + 1))) rows (omega (arith, whole))) up
 
 -- the next row is made
 
-pub one_more_row : (a : Body) (cells : Box) (old new : Stack) (row : List Hull) → AreRows a cells old → length old.known < length cells →
-    row ≡ get_or (forward_rows a cells) (length old.known) [] → IsOneMore row old new → AreRows a cells new
-one_more_row a cells old new row h lt is more = record {
-  planned = subst (IsPlanned a) (sym more.planned) h.planned;
-  known = subst (AreFirst a cells) (sym more.known) (one_more a cells old.known row h.known lt is);
-  laid = subst (λ r. GoOn a cells r new.laid.from) (sym more.rows)
-      (with_row_go_on a cells old.laid.rows (length old.known) row old.laid.from new.laid.from h.laid more.within lt more.from more.above);
+-- rows that are made by this plan
+made_rows : (a : Body) (p : Planned) (cells : Box) (s : Stack) → s.planned ≡ p → IsPlanned a p → AreFirst (seen_by a p) cells s.known →
+    GoOn (seen_by a p) cells s.laid.rows s.laid.from → AreRows a cells s
+made_rows a p cells s same plan known laid = record {
+  planned = subst (IsPlanned a) (sym same) plan;
+  known = subst (λ (q : Planned). AreFirst (seen_by a q) cells s.known) (sym same) known;
+  laid = subst (λ (q : Planned). GoOn (seen_by a q) cells s.laid.rows s.laid.from) (sym same) laid;
 }
 
+pub one_more_row : (a : Body) (cells : Box) (old new : Stack) (row : List Hull) → AreRows a cells old → length old.known < length cells →
+    row ≡ get_or (rows_seen (seen_by a old.planned) cells) (length old.known) [] → IsOneMore row old new → AreRows a cells new
+one_more_row a cells old new row h lt is more =
+    let s = seen_by a old.planned in
+    made_rows a old.planned cells new more.planned h.planned (subst (AreFirst s cells) (sym more.known) (one_more s cells old.known row h.known lt is))
+    (subst (λ r. GoOn s cells r new.laid.from) (sym more.rows)
+    (with_row_go_on s cells old.laid.rows (length old.known) row old.laid.from new.laid.from h.laid more.within lt more.from more.above))
+
 pub all_rows_stand : (a : Body) (cells : Box) (old new : Stack) (row : List Hull) → AreRows a cells old → Stands row old →
-    row ≡ get_or (forward_rows a cells) (length old.known) [] → new.planned ≡ old.planned → new.known ≡ old.laid.rows → new.laid ≡ old.laid →
-    AreRows a cells new
-all_rows_stand a cells old new row h s is plan all same = record {
-  planned = subst (IsPlanned a) (sym plan) h.planned;
-  known = subst (AreFirst a cells) (sym all)
-      (all_known a cells old.laid.rows old.laid.from (length old.known) h.laid s.from s.there (subst (AreFirst a cells) s.known h.known) (s.same ∙ is));
-  laid = subst (λ (l : Laid). GoOn a cells l.rows l.from) (sym same) h.laid;
-}
+    row ≡ get_or (rows_seen (seen_by a old.planned) cells) (length old.known) [] → new.planned ≡ old.planned → new.known ≡ old.laid.rows →
+    new.laid ≡ old.laid → AreRows a cells new
+all_rows_stand a cells old new row h s is plan all same =
+    let z = seen_by a old.planned in
+    made_rows a old.planned cells new plan h.planned
+    (subst (AreFirst z cells) (sym all)
+    (all_known z h.planned.sound cells old.laid.rows old.laid.from (length old.known) h.laid s.from s.there
+    (subst (AreFirst z cells) s.known h.known) (s.same ∙ is)))
+    (subst (λ (l : Laid). GoOn z cells l.rows l.from) (sym same) h.laid)
 
 -- the same, as the code holds the rows
 
@@ -258,40 +260,49 @@ either_way (Err e) P Q G p q f g = g q
 
 -- a row that was known, without the values that its cell has lost, is that of the cell now
 
-module _ (a : Body) (cells later : Box) (count end : ℕ) (old : Stack) (plan : IsPlanned a old.planned) (h : AreFirst a cells old.known)
-    (g : GoOn a cells old.laid.rows old.laid.from) (long : length later ≡ length cells) (before : take count later ≡ take count cells)
-    (behind : drop end later ≡ drop end cells) where
+module _ (a : Body) (cells later : Box) (count end : ℕ) (old : Stack) (plan : IsPlanned a old.planned)
+    (h : AreFirst (seen_by a old.planned) cells old.known) (g : GoOn (seen_by a old.planned) cells old.laid.rows old.laid.from)
+    (long : length later ≡ length cells) (before : take count later ≡ take count cells) (behind : drop end later ≡ drop end cells) where
+  abbrev sees : Sight
+  sees = seen_by a old.planned
+
   cut_stays : (new : Stack) → IsCut count end old new → AreRows a later new
-  cut_stays new f = record {
-    planned = subst (IsPlanned a) (sym f.planned) plan;
-    known = stay_first a cells later count old.known new.known f.known before h;
-    laid = laid_stay a cells later end old.known old.laid new.laid h g f.from f.rows f.above long behind;
-  }
+  cut_stays new f =
+      made_rows a old.planned later new f.planned plan (stay_first sees cells later count old.known new.known f.known before h)
+      (laid_stay sees plan.sound cells later end old.known old.laid new.laid h g f.from f.rows f.above long behind)
 
   row_now : (gone : Gone) → count < length old.known → get_or later count [] ≡ remove_range (get_or cells count []) gone.from gone.to →
-      without old.planned.states gone (get_or old.known count []) ≡ get_or (forward_rows a later) count []
+      without old.planned.states gone (get_or old.known count []) ≡ get_or (rows_seen sees later) count []
   row_now gone lt lost =
-      let few = few_known a cells old.known h in
+      let few = few_known sees cells old.known h in
       let back = reverse (take count cells) in
       ap (λ s. without s gone (get_or old.known count [])) plan.states
-      ∙ ap (without (length a.states) gone) (known_at a cells old.known count h lt ∙ row_at_place a cells count (omega (arith, lt, few)))
-      ∙ row_lost a back (get_or cells count []) gone ∙ ap (row_of a back) (sym lost)
-      ∙ ap (λ l. row_of a (reverse l) (get_or later count [])) (sym before)
-      ∙ sym (row_at_place a later count (omega (arith, lt, few, long)))
+      ∙ ap (without (length a.states) gone) (known_at sees cells old.known count h lt ∙ row_at_place sees cells count (omega (arith, lt, few)))
+      ∙ row_lost sees.ends a back (get_or cells count []) gone ∙ ap (λ vs. seen_row sees.ends (row_of a back vs)) (sym lost)
+      ∙ ap (λ l. seen_row sees.ends (row_of a (reverse l) (get_or later count []))) (sym before)
+      ∙ sym (row_at_place sees later count (omega (arith, lt, few, long)))
 
   spliced_stays : (gone : Gone) (new : Stack) → IsSpliced count end gone old new →
       get_or later count [] ≡ remove_range (get_or cells count []) gone.from gone.to → AreRows a later new
   spliced_stays gone new z lost =
-      let few = few_known a cells old.known h in let lt = z.there in
+      let few = few_known sees cells old.known h in let lt = z.there in
       let here : length z.cut.known ≡ count = (let l = ap length z.is_cut.known ∙ length-take count old.known in omega (arith, l, lt)) in
       one_more_row a later z.cut new (without old.planned.states gone (get_or old.known count [])) (cut_stays z.cut z.is_cut)
-      (omega (arith, here, lt, few, long)) (row_now gone lt lost ∙ ap (λ n. get_or (forward_rows a later) n []) (sym here)) z.more
+      (omega (arith, here, lt, few, long))
+      (row_now gone lt lost ∙ ap (λ n. get_or (rows_seen sees later) n []) (sym here)
+      ∙ ap (λ (q : Planned). get_or (rows_seen (seen_by a q) later) (length z.cut.known) []) (sym z.is_cut.planned)) z.more
 
   pub left_stays : (gone : Option Gone) (new : Stack) → IsLeft count end gone old new → AreLost gone (get_or cells count []) (get_or later count []) →
       AreRows a later new
   left_stays None new f lost = cut_stays new f
   left_stays (Some gone) new (inl f) lost = cut_stays new f
   left_stays (Some gone) new (inr z) lost = spliced_stays gone new z lost
+
+-- they are made by the same plan
+left_planned : (count end : ℕ) (gone : Option Gone) (old new : Stack) → IsLeft count end gone old new → new.planned ≡ old.planned
+left_planned count end None old new f = f.planned
+left_planned count end (Some gone) old new (inl f) = f.planned
+left_planned count end (Some gone) old new (inr z) = z.more.planned ∙ z.is_cut.planned
 
 -- tables after a change
 
@@ -310,38 +321,53 @@ module _ (c : Change) (b later : Box) (d : IsChange c b later) where
   long_later : length later ≡ length b
   long_later = d.differ.count_later ∙ sym d.differ.count
 
-  behind_left : (p : Option Pair) (old new : Stack) → IsPlannedBack p old.planned → AreBehind p b old.known → GoOnBehind p b old.laid →
-      IsLeft (c.count - c.last) (c.count - c.first) c.gone_last old new → AreBehind p later new.known × GoOnBehind p later new.laid
-  behind_left None old new plan h g f = (tt, tt)
-  behind_left (Some p) old new plan h g f =
+  behind_left : (p : Option Pair) (ends : Sides) (old new : Stack) → form_sides old.planned.form ≡ ends → IsPlannedBack p old.planned →
+      AreBehind p ends b old.known → GoOnBehind p ends b old.laid → IsLeft (c.count - c.last) (c.count - c.first) c.gone_last old new →
+      AreBehind p ends later new.known × GoOnBehind p ends later new.laid
+  behind_left None ends old new is plan h g f = (tt, tt)
+  behind_left (Some p) ends old new is plan h g f =
       let some = c.some in
       let turned = λ (cells : Box) (e : length cells ≡ c.count). turned_cell c.count c.last cells e (omega (arith, some)) c.within in
-      let rows = left_stays p.reverse (reverse b) (reverse later) (c.count - c.last) (c.count - c.first) old plan h g
+      let known = subst (λ s. AreFirst (sight p.reverse s) (reverse b) old.known) (sym is) h in
+      let laid = subst (λ s. GoOn (sight p.reverse s) (reverse b) old.laid.rows old.laid.from) (sym is) g in
+      let rows = left_stays p.reverse (reverse b) (reverse later) (c.count - c.last) (c.count - c.first) old plan known laid
       (length-reverse later ∙ long_later ∙ sym (length-reverse b))
       (turned_front c.count c.last b later d.differ.count d.differ.count_later d.differ.behind)
       (turned_rest c.count c.first b later d.differ.count d.differ.count_later d.differ.before) c.gone_last new f
       (subst (AreLost c.gone_last (get_or (reverse b) (c.count - c.last) [])) (sym (turned later d.differ.count_later))
       (subst (λ z. AreLost c.gone_last z (get_or later (c.last - 1) [])) (sym (turned b d.differ.count)) d.gone_last)) in
-      (rows.known, rows.laid)
+      let now = ap (λ (q : Planned). form_sides q.form) (left_planned (c.count - c.last) (c.count - c.first) c.gone_last old new f) ∙ is in (
+        subst (λ s. AreFirst (sight p.reverse s) (reverse later) new.known) now rows.known,
+        subst (λ s. GoOn (sight p.reverse s) (reverse later) new.laid.rows new.laid.from) now rows.laid,
+      )
 
 -- the tables of a machine with these rows, and these requirements by which nothing is found
 abbrev pub tables : Automata → Stack → Stack → List Require → KnownRows
-tables a x y quiet =
-    record { machine = a; ahead = x.known; behind = y.known; laid_ahead = x.laid; laid_behind = y.laid; quiet = quiet }
+tables a x y quiet = record {
+  machine = a;
+  form = x.planned.form;
+  ahead = x.known;
+  behind = y.known;
+  laid_ahead = x.laid;
+  laid_behind = y.laid;
+  quiet = quiet;
+}
 
 module _ (a : Automata) (c : Change) (x y x' y' : Stack) (quiet : List Require) (plan : IsPlanned a.forward x.planned)
-    (plan_back : IsPlannedBack a.pair y.planned) (f : IsLeft c.first c.last c.gone_first x x')
+    (plan_back : IsPlannedBack a.pair y.planned) (form : y.planned.form ≡ x.planned.form) (f : IsLeft c.first c.last c.gone_first x x')
     (g : IsLeft (c.count - c.last) (c.count - c.first) c.gone_last y y') where
   tables_stay : StayKnown c (tables a x y quiet) (tables a x' y' [])
   tables_stay b later d h =
       let rows = left_stays a.forward b later c.first c.last x plan h.ahead h.laid_ahead (long_later c b later d) d.differ.before d.differ.behind
       c.gone_first x' f d.gone_first in
-      let back = behind_left c b later d a.pair y y' plan_back h.behind h.laid_behind g in
+      let ends = form_sides x.planned.form in
+      let back = behind_left c b later d a.pair ends y y' (ap form_sides form) plan_back h.behind h.laid_behind g in
+      let now : ends ≡ form_sides x'.planned.form = ap (λ (q : Planned). form_sides q.form) (sym (left_planned c.first c.last c.gone_first x x' f)) in
       record {
         ahead = rows.known;
-        behind = back.0;
+        behind = subst (λ s. AreBehind a.pair s later y'.known) now back.0;
         laid_ahead = rows.laid;
-        laid_behind = back.1;
+        laid_behind = subst (λ s. GoOnBehind a.pair s later y'.laid) now back.1;
         quiet = λ r in_none. absurd (nothing_in r in_none);
       }
 
@@ -353,54 +379,61 @@ module _ (a : Automata) (c : Change) (x y x' y' : Stack) (quiet : List Require) 
 
 -- tables of which nothing is known
 
-no_behind : (p : Option Pair) (cells : Box) → AreBehind p cells [] × GoOnBehind p cells nothing_laid
-no_behind None cells = (tt, tt)
-no_behind (Some p) cells = (refl, record { few = omega arith; each = λ i le lt. absurd (omega (arith, lt)) })
+no_behind : (p : Option Pair) (ends : Sides) (cells : Box) → AreBehind p ends cells [] × GoOnBehind p ends cells nothing_laid
+no_behind None ends cells = (tt, tt)
+no_behind (Some p) ends cells = (refl, record { few = omega arith; each = λ i le lt. absurd (omega (arith, lt)) })
 
 pub nothing_known : (a : Automata) (p q : Planned) (x y : Stack) (quiet : List Require) (t : KnownRows) (cells : Box) → x ≡ no_rows p → y ≡ no_rows q →
     quiet ≡ [] → tables a x y quiet ≡ t → AreRowsOf cells t
 nothing_known a p q x y quiet t cells is is' none now =
+    let behind = no_behind a.pair (form_sides p.form) cells in
     let empty : AreRowsOf cells (tables a (no_rows p) (no_rows q) []) = record {
       ahead = refl;
-      behind = (no_behind a.pair cells).0;
+      behind = behind.0;
       laid_ahead = record { few = omega arith; each = λ i le lt. absurd (omega (arith, lt)) };
-      laid_behind = (no_behind a.pair cells).1;
+      laid_behind = behind.1;
       quiet = λ r c. absurd (nothing_in r c);
     } in
     subst (AreRowsOf cells)
     (ap (λ z. tables a z (no_rows q) []) (sym is) ∙ ap (λ z. tables a x z []) (sym is') ∙ ap (tables a x y) (sym none) ∙ now) empty
 
--- tables with more rows
+-- tables with more rows, in the form that there is
 
 module _ (a : Automata) (b : Box) (quiet : List Require) (old new : KnownRows) (row : Body) (w : Option Range) (is_window : w ≡ a.window)
     (h : AreKnown b old) where
-  pub ahead_known : (x x' y : Stack) → row ≡ a.forward → AreRows row (looked_at w b) x' → tables a x y quiet ≡ old → tables a x' y quiet ≡ new →
-      StillKnown b old new
-  ahead_known x x' y is rows was now =
+  pub ahead_known : (x x' y : Stack) → row ≡ a.forward → AreRows row (looked_at w b) x' → x'.planned.form ≡ x.planned.form → tables a x y quiet ≡ old →
+      tables a x' y quiet ≡ new → StillKnown b old new
+  ahead_known x x' y is rows form was now =
       let known = subst (AreKnown b) (sym was) h in
       let more = subst (λ v. AreRows a.forward (looked_at v b) x') is_window (subst (λ f. AreRows f (looked_at w b) x') is rows) in
+      let same : form_sides x.planned.form ≡ form_sides x'.planned.form = ap form_sides (sym form) in
       subst (StillKnown b old) now
       (subst (λ t. StillKnown b t (tables a x' y quiet)) was (record {
         machine = refl;
         known = record {
           ahead = more.known;
-          behind = known.behind;
+          behind = subst (λ s. AreBehind a.pair s (looked_at a.window b) y.known) same known.behind;
           laid_ahead = more.laid;
-          laid_behind = known.laid_behind;
+          laid_behind = subst (λ s. GoOnBehind a.pair s (looked_at a.window b) y.laid) same known.laid_behind;
           quiet = known.quiet;
         };
       }))
 
-  rows_behind : (p : Option Pair) (cells : Box) (s : Stack) → Some row ≡ option_map (λ q. q.reverse) p → AreRows row (reverse cells) s →
-      AreBehind p cells s.known × GoOnBehind p cells s.laid
-  rows_behind None cells s e rows = (tt, tt)
-  rows_behind (Some p) cells s e rows = let r = subst (λ f. AreRows f (reverse cells) s) (same_Some row p.reverse e) rows in (r.known, r.laid)
+  rows_behind : (p : Option Pair) (ends : Sides) (cells : Box) (s : Stack) → form_sides s.planned.form ≡ ends → Some row ≡ option_map (λ q. q.reverse) p →
+      AreRows row (reverse cells) s → AreBehind p ends cells s.known × GoOnBehind p ends cells s.laid
+  rows_behind None ends cells s same e rows = (tt, tt)
+  rows_behind (Some p) ends cells s same e rows =
+      let r = subst (λ f. AreRows f (reverse cells) s) (same_Some row p.reverse e) rows in (
+        subst (λ z. AreFirst (sight p.reverse z) (reverse cells) s.known) same r.known,
+        subst (λ z. GoOn (sight p.reverse z) (reverse cells) s.laid.rows s.laid.from) same r.laid,
+      )
 
-  pub behind_known : (x y y' : Stack) → Some row ≡ option_map (λ q. q.reverse) a.pair → AreRows row (reverse (looked_at w b)) y' → tables a x y quiet ≡ old →
-      tables a x y' quiet ≡ new → StillKnown b old new
-  behind_known x y y' is rows was now =
+  pub behind_known : (x y y' : Stack) → Some row ≡ option_map (λ q. q.reverse) a.pair → AreRows row (reverse (looked_at w b)) y' →
+      y'.planned.form ≡ x.planned.form → tables a x y quiet ≡ old → tables a x y' quiet ≡ new → StillKnown b old new
+  behind_known x y y' is rows form was now =
       let known = subst (AreKnown b) (sym was) h in
-      let more = rows_behind a.pair (looked_at a.window b) y' is (subst (λ v. AreRows row (reverse (looked_at v b)) y') is_window rows) in
+      let more = rows_behind a.pair (form_sides x.planned.form) (looked_at a.window b) y' (ap form_sides form) is
+      (subst (λ v. AreRows row (reverse (looked_at v b)) y') is_window rows) in
       subst (StillKnown b old) now
       (subst (λ t. StillKnown b t (tables a x y' quiet)) was (record {
         machine = refl;

@@ -30,4 +30,6 @@ mod CellLaws
 mod TableSteps
 mod MeetLaws
 mod EnoughEnds
+mod SeenEnds
+mod AlikeLaws
 mod RoomLaws

@@ -22,6 +22,10 @@ pub counted : (m : Machine) (b : Box) (w : Option Range) (n count : ℕ) → Loo
 counted m b w n count looks is is_n is_count =
     is_count ∙ ap (λ z. count_looked z n) is ∙ ap (count_looked (window_of m)) is_n ∙ sym (looked_length (window_of m) b looks)
 
+pub counted_as : (m : Machine) (b : Box) (w : Option Range) (n count : ℕ) → w ≡ window_of m → n ≡ length b → count ≡ count_looked w n →
+    count_looked (window_of m) (length b) ≡ count
+counted_as m b w n count is is_n is_count = sym (is_count ∙ ap (λ z. count_looked z n) is ∙ ap (count_looked (window_of m)) is_n)
+
 -- a cell before the first one isn't looked at
 pub unseen : (w : Option Range) (first : ℕ) → first ≡ first_looked w → 1 < first → is_looked w 1 ≡ false
 unseen None first is lt = absurd (omega (arith, is, lt))

@@ -1,57 +1,71 @@
--- What packed rows tell where they meet at a value is the span of the value.
-use Rattle.std.proofs.Common.{◌≡◌, ℕ, ◌+◌, ◌-◌, ◌*◌, ◌<◌, ◌≤◌, ℤ, List, ◌∷◌, [], length, take, drop, slice_get, get_or, Option, Some, None, refl, sym, ap, ◌∙◌, subst, arith}
-use Rattle.std.specs.Prelude.{IsSome, IfSome, option_map}
+-- What packed rows tell where they meet at a value is, as far as a question finds, the span of the value.
+use Rattle.std.proofs.Common.{◌≡◌, ◌⊎◌, inl, inr, ⊎_elim, ℕ, ◌+◌, ◌-◌, ◌*◌, ◌<◌, ◌≤◌, ℤ, false, IsTrue, List, ◌∷◌, [], ◌++◌, length, map, take, drop, slice_get, get_or, Option, Some, None, refl, sym, ap, ◌∙◌, subst, arith}
+use Rattle.std.specs.Prelude.{IsSome, IfSome, flat_map, option_map}
+use Rattle.std.specs.List.{range_with_len}
 use Rattle.std.proofs.lemmas.List.{get_or-take, get_or-drop}
 use Rattle.std.proofs.lemmas.Option.{slice_get_within}
 use Rattle.ts_base.specs.declared.span.Span.{Span}
 use Rattle.ts_base.specs.Spans.{none_span, span_hull}
 use Rattle.ts_automaton.specs.declared.regs.Hull.{Hull}
 use Rattle.ts_automaton.specs.Body.{Body}
+use Rattle.ts_automaton.specs.Registers.{spans_of}
+use Rattle.ts_automaton.specs.SpanRun.{finish_span_of, finished_span, marked_span}
+use Rattle.ts_automaton.specs.Typing.{is_automaton}
 use Rattle.ts_hull.specs.Hulls.{none}
 use Rattle.ts_hull.proofs.HullLaws.{hull_canonical}
-use Rattle.ts_row.specs.Rows.{flat_row, hull_in}
+use Rattle.ts_row.specs.Rows.{hull_in}
 use Rattle.ts_row.proofs.Flat.{flat_at}
 use Rattle.ts_glue.specs.declared.machine.Machine.{Machine}
+use Rattle.ts_glue.specs.Glue.{is_wide}
+use Rattle.ts_glue.specs.Glued.{glue_span_at, glued_span}
 use Rattle.ts_glue.specs.Machines.{pair_of}
 use Rattle.ts_glue.specs.Pairs.{Pair}
 use Rattle.ts_glue.proofs.CallerLemmas.{machines_keep_rules}
 use Rattle.ts_glue.proofs.Facts.{facts_of}
-use Rattle.ts_sweep.specs.FrontLaws.{never_added}
-use Rattle.ts_sweep.specs.Packed.{is_wide}
+use Rattle.ts_sweep.specs.Sides.{Sides, BothEnds, has_wide, seen_hull, sides}
 use Rattle.ts_meet.specs.declared.joints.Joints.{Joints}
 use Rattle.ts_meet.specs.Asked.{IsAnswer}
 use Rattle.ts_meet.specs.Joints.{AreJoints}
-use Rattle.ts_meet.specs.Meets.{HasPlace, finish_hull, glued_hull, spans_between}
+use Rattle.ts_meet.specs.Meets.{HasPlace, finish_hull, finish_seen, finishes_in, glued_hull, glued_seen, spans_between}
 use Rattle.ts_meet.specs.Settled.{HavePlaces}
-use Rattle.ts_meet.proofs.CallerLemmas.{row_place, row_places, spans_are, finishes_are}
-use Rattle.ts_bound.specs.Blocks.{finishes, glued_all, glued_with, back_hulls, split_at}
-use Rattle.ts_bound.specs.HullTables.{cells_after, cells_before, hulls_at}
+use Rattle.ts_meet.proofs.CallerLemmas.{row_place, row_places, spans_are, finishes_are, with_hull}
+use Rattle.ts_meet.proofs.SeenGlue.{finished_span_seen, glue_span_seen}
+use Rattle.ts_bound.specs.Blocks.{finishes, glued_all, glued_with, back_hulls, last_at, split_at, standing_of}
+use Rattle.ts_bound.specs.HullTables.{cells_after, cells_before, hulls_at, row_of}
 use Rattle.ts_bound.specs.PackedRows.{IsPackedRow}
 use Rattle.ts_bound.specs.TermSpans.{span_of_all}
-use Rattle.ts_bound.proofs.SpanEnds.{IsPairOf, split_one}
+use Rattle.ts_bound.proofs.SeenRows.{seen_at}
+use Rattle.ts_bound.proofs.SpanEnds.{IsPairOf, last_one, split_one}
 use Rattle.ts_filter.specs.declared.any_row.AnyRow.{AnyRow}
-use Rattle.ts_filter.specs.declared.any_row.AnyRow.TheVariants.{Narrow, Wide}
+use Rattle.ts_filter.specs.declared.any_row.AnyRow.TheVariants.{Narrow, Upper, Lower, Wide}
 use Rattle.ts_filter.specs.declared.cell_hulls.BackSide.{BackSide}
 use Rattle.ts_filter.specs.declared.question.Question.{Question}
 use Rattle.ts_filter.specs.declared.so_far.SoFar.{SoFar}
-use Rattle.ts_filter.specs.AnyRows.{Columns, IsRowOf, columns, glued_between, lanes_of}
+use Rattle.ts_filter.specs.Alike.{FindsAlike, IsServed}
+use Rattle.ts_filter.specs.AnyRows.{Columns, IsFormOf, IsRowOf, columns, form_of, form_sides, glued_between, lanes_of}
 use Rattle.ts_filter.specs.Boxes.{Box}
 use Rattle.ts_filter.specs.CellHulls.{IsSide}
 use Rattle.ts_filter.specs.KnownRows.{HasJoints}
 use Rattle.ts_filter.specs.Question.{Excludes}
-use Rattle.ts_filter.specs.SoFar.{IsSoFar, WithParts}
-use Rattle.ts_filter.proofs.CellLaws.{ahead_block}
+use Rattle.ts_filter.specs.SoFar.{WithParts}
+use Rattle.ts_filter.proofs.AlikeLaws.{EachAlike, finds_back, finds_folded, finds_on, finds_same, finds_self}
+use Rattle.ts_filter.proofs.CellLaws.{row_block}
+use Rattle.ts_filter.proofs.PackedStacks.{form_alone, lanes_are}
+use Rattle.ts_filter.proofs.SoFarLaws.{excludes_found, part_found}
 
 -- the hull of a state at a value
 
 hull_there : (m : ℕ) (a : Body) (before : Box) (values : List ℤ) (i q : ℕ) (v : ℤ) (row : Columns m) → IsPackedRow m a before values row →
-    slice_get values i ≡ Some v → q < length a.states → hull_in m row q i ≡ get_or (hulls_at a before v) q none
+    slice_get values i ≡ Some v → q < length a.states → hull_in m row q i ≡ seen_hull (sides m) (get_or (hulls_at a before v) q none)
 hull_there m a before values i q v row is e lt =
-    let s = length a.states in let flat = flat_row m s (length values) row in
+    let s = length a.states in let whole = row_of a before values in
     let wide : i * s + s - i * s ≡ s = omega arith in
-    sym (flat_at m s (length values) row q i lt (slice_get_within values i v e)) ∙ sym (get_or-drop (i * s) flat q none)
-    ∙ sym (get_or-take s (drop (i * s) flat) q none lt) ∙ ap (λ w. get_or (take w (drop (i * s) flat)) q none) (sym wide)
-    ∙ ap (λ l. get_or l q none) (ahead_block m a before values i v row _ s (length values) refl refl is e refl)
+    sym (flat_at m s (length values) row q i lt (slice_get_within values i v e)) ∙ ap (λ l. get_or l (i * s + q) none) is.is_flat
+    ∙ sym (seen_at (sides m) s q whole i)
+    ∙ ap (seen_hull (sides m))
+    (sym (get_or-drop (i * s) whole q none) ∙ sym (get_or-take s (drop (i * s) whole) q none lt)
+    ∙ ap (λ w. get_or (take w (drop (i * s) whole)) q none) (sym wide)
+    ∙ ap (λ l. get_or l q none) (row_block a before values i v whole _ s refl refl e refl))
 
 -- there is one for each state
 pub place_there : (m : ℕ) (a : Body) (before : Box) (values : List ℤ) (i : ℕ) (v : ℤ) (row : Columns m) (s : ℕ) → s ≡ length a.states →
@@ -65,58 +79,130 @@ places_there : (m : ℕ) (a : Body) (before : Box) (values : List ℤ) (row : Co
 places_there m a before values row s is_s is to inside =
     subst (λ k. HavePlaces m k to row) (sym is_s) (row_places m (length a.states) (length values) to row is.is_row inside)
 
--- at the last cell
-pub finish_is : (m : ℕ) (a : Body) (before : Box) (values : List ℤ) (i : ℕ) (v : ℤ) (row : Columns m) (n : ℕ) → IsPackedRow m a before values row →
-    slice_get values i ≡ Some v → finish_hull m a row i n ≡ span_of_all (finishes a (hulls_at a before v) n (length a.states))
-unfolding finishes
-finish_is m a before values i v row n is e =
-    ap span_of_all
-    (finishes_are m a row i n (length a.states) (λ q. get_or (hulls_at a before v) q none) (λ q lt. hull_there m a before values i q v row is e lt))
+-- a row has a form of its automaton
+pub width_of_form : (row : AnyRow) (a : Body) → a.wide ≡ has_wide (lanes_of row) → IsFormOf a.wide (form_of row)
+width_of_form row a e = e ∙ ap has_wide (sym (lanes_are row))
 
-glued_are : (n : ℕ) (p : Pair) (ls rs : List Hull) (left right : Columns n) (i : ℕ) (x : ℤ) (cells m k : ℕ) →
-    ((q : ℕ) → q < k → hull_in n left q i ≡ get_or ls q none) → ((r : ℕ) → r < m → hull_in n right r i ≡ get_or rs r none) →
-    spans_between n p left right i x cells m k ≡ glued_all (Some p) ls rs x cells m k
-unfolding glued_all glued_with
-glued_are n p ls rs left right i x cells m k h j = spans_are n p i x cells left right (λ q. get_or ls q none) (λ r. get_or rs r none) m k h j
+-- spans made of what is seen are found alike, and so are their hulls
+
+module _ (asked : Question) where
+  each_map : (f g : ℕ → Span) (qs : List ℕ) → ((q : ℕ) → FindsAlike asked (f q) (g q)) → EachAlike asked (map f qs) (map g qs)
+  each_map f g [] h = tt
+  each_map f g (q ∷ qs) h = (h q, each_map f g qs h)
+
+  each_append : (ss ts us vs : List Span) → EachAlike asked ss ts → EachAlike asked us vs → EachAlike asked (ss ++ us) (ts ++ vs)
+  each_append [] [] us vs h k = k
+  each_append [] (t ∷ ts) us vs h k = absurd h
+  each_append (s ∷ ss) [] us vs h k = absurd h
+  each_append (s ∷ ss) (t ∷ ts) us vs h k = (h.0, each_append ss ts us vs h.1 k)
+
+  each_flat : (f g : ℕ → List Span) (qs : List ℕ) → ((q : ℕ) → EachAlike asked (f q) (g q)) → EachAlike asked (flat_map f qs) (flat_map g qs)
+  each_flat f g [] h = tt
+  each_flat f g (q ∷ qs) h = each_append (f q) (g q) (flat_map f qs) (flat_map g qs) (h q) (each_flat f g qs h)
+
+  hull_found : (ss ts us : List Span) → ss ≡ us → EachAlike asked us ts → FindsAlike asked (span_of_all ss) (span_of_all ts)
+  hull_found ss ts us e each =
+      subst (λ l. FindsAlike asked (span_of_all l) (span_of_all ts)) (sym e)
+      (finds_folded asked us ts none_span none_span (finds_self asked none_span) each)
+
+  finish_one : (s : Sides) (b : Body) (q : ℕ) (h : Hull) (n : ℕ) → IsTrue (is_automaton b) → (s ≡ BothEnds) ⊎ (b.wide ≡ false) →
+      IsServed s b.mark n asked → FindsAlike asked (finish_seen s b (with_hull q (seen_hull s h)) n) (finish_span_of b (with_hull q h) n)
+  finish_one s b q h n rules alone served =
+      subst (λ z. FindsAlike asked (marked_span b.mark n z) (finish_span_of b (with_hull q h) n)) (sym (finished_span_seen s b (spans_of h) rules alone))
+      (served (finished_span b (spans_of h)))
+
+  glued_one : (s : Sides) (p : Pair) (q r : ℕ) (h k : Hull) (x : ℤ) (n : ℕ) → (s ≡ BothEnds) ⊎ (is_wide p ≡ false) →
+      IsServed s p.forward.mark n asked →
+      FindsAlike asked (glued_seen s p (with_hull q (seen_hull s h)) (with_hull r (seen_hull s k)) x n) (glued_span p (with_hull q h) (with_hull r k) x n)
+  glued_one s p q r h k x n alone served =
+      subst (λ z. FindsAlike asked (marked_span p.forward.mark n z) (glued_span p (with_hull q h) (with_hull r k) x n))
+      (sym (glue_span_seen s p (with_hull q h) (with_hull r k) x alone)) (served (glue_span_at p (with_hull q h) (with_hull r k) x))
+
+  -- at the last cell
+  finish_found : (m : ℕ) (a : Body) (before : Box) (values : List ℤ) (i : ℕ) (v : ℤ) (row : Columns m) (n : ℕ) → IsPackedRow m a before values row →
+      slice_get values i ≡ Some v → IsTrue (is_automaton a) → (sides m ≡ BothEnds) ⊎ (a.wide ≡ false) → IsServed (sides m) a.mark n asked →
+      FindsAlike asked (finish_hull m a row i n) (span_of_all (finishes a (hulls_at a before v) n (length a.states)))
+  unfolding finishes
+  finish_found m a before values i v row n is e rules alone served =
+      let hs = hulls_at a before v in let there : ℕ → Hull = λ q. seen_hull (sides m) (get_or hs q none) in let all = range_with_len 0 (length a.states) in
+      hull_found (finishes_in m a row i n (length a.states)) (finishes a hs n (length a.states))
+      (map (λ q. finish_seen (sides m) a (with_hull q (there q)) n) all)
+      (finishes_are m a row i n (length a.states) there (λ q lt. hull_there m a before values i q v row is e lt))
+      (each_map (λ q. finish_seen (sides m) a (with_hull q (there q)) n) (λ q. finish_span_of a (standing_of hs q) n) all
+      (λ q. finish_one (sides m) a q (get_or hs q none) n rules alone served))
+
+  -- the same of a row in any form
+  pub finish_alike : (a : Body) (before : Box) (values : List ℤ) (i : ℕ) (v : ℤ) (row : AnyRow) (n : ℕ) → IsRowOf a before values row →
+      slice_get values i ≡ Some v → IsTrue (is_automaton a) → IsServed (form_sides (form_of row)) a.mark n asked →
+      FindsAlike asked (finish_hull (lanes_of row) a (columns row) i n) (span_of_all (finishes a (hulls_at a before v) n (length a.states)))
+  finish_alike a before values i v row n is e rules served =
+      finish_found (lanes_of row) a before values i v (columns row) n is.packed e rules
+      (subst (λ m. (sides m ≡ BothEnds) ⊎ (a.wide ≡ false)) (lanes_are row) (form_alone a.wide (form_of row) (width_of_form row a is.width)))
+      (subst (λ m. IsServed (sides m) a.mark n asked) (lanes_are row) served)
+
+  glued_all_found : (m : ℕ) (p : Pair) (ls rs : List Hull) (left right : Columns m) (i : ℕ) (x : ℤ) (cells k l : ℕ) →
+      ((q : ℕ) → q < l → hull_in m left q i ≡ seen_hull (sides m) (get_or ls q none)) →
+      ((r : ℕ) → r < k → hull_in m right r i ≡ seen_hull (sides m) (get_or rs r none)) →
+      (sides m ≡ BothEnds) ⊎ (is_wide p ≡ false) → IsServed (sides m) p.forward.mark cells asked →
+      FindsAlike asked (span_of_all (spans_between m p left right i x cells k l)) (span_of_all (glued_all (Some p) ls rs x cells k l))
+  unfolding glued_all glued_with
+  glued_all_found m p ls rs left right i x cells k l h j alone served =
+      let s = sides m in let hl : ℕ → Hull = λ q. seen_hull s (get_or ls q none) in let hr : ℕ → Hull = λ r. seen_hull s (get_or rs r none) in
+      let seen_with : ℕ → List Span = λ q. map (λ r. glued_seen s p (with_hull q (hl q)) (with_hull r (hr r)) x cells) (range_with_len 0 k) in
+      let true_with : ℕ → List Span = λ q. map (λ r. glued_span p (standing_of ls q) (standing_of rs r) x cells) (range_with_len 0 k) in
+      hull_found (spans_between m p left right i x cells k l) (flat_map true_with (range_with_len 0 l)) (flat_map seen_with (range_with_len 0 l))
+      (spans_are m p i x cells left right hl hr k l h j)
+      (each_flat seen_with true_with (range_with_len 0 l)
+      (λ q. each_map (λ r. glued_seen s p (with_hull q (hl q)) (with_hull r (hr r)) x cells) (λ r. glued_span p (standing_of ls q) (standing_of rs r) x cells)
+      (range_with_len 0 k) (λ r. glued_one s p q r (get_or ls q none) (get_or rs r none) x cells alone served)))
 
 -- at another one
 
-module _ (f : Body) (before behind : Box) (values : List ℤ) (i : ℕ) (v : ℤ) (e : slice_get values i ≡ Some v) (p : Pair) (n : ℕ) (is : p.forward ≡ f) where
+module _ (asked : Question) (f : Body) (before behind : Box) (values : List ℤ) (i : ℕ) (v : ℤ) (e : slice_get values i ≡ Some v) (p : Pair) (n : ℕ)
+    (is : p.forward ≡ f) (width : p.forward.wide ≡ is_wide p) where
   abbrev GluedSpan : Span
   GluedSpan = span_of_all (glued_all (Some p) (hulls_at f before v) (hulls_at p.reverse behind v) v n (length p.reverse.states) (length f.states))
 
   glued_in : (m : ℕ) (left right : Columns m) → IsPackedRow m f before values left → IsPackedRow m p.reverse behind values right →
-      glued_hull m p left right i v n ≡ GluedSpan
-  glued_in m left right ahead back =
+      (sides m ≡ BothEnds) ⊎ (f.wide ≡ false) → IsServed (sides m) f.mark n asked → FindsAlike asked (glued_hull m p left right i v n) GluedSpan
+  glued_in m left right ahead back alone served =
       let ls = hulls_at f before v in let rs = hulls_at p.reverse behind v in
-      ap (λ (a : Body). span_of_all (spans_between m p left right i v n (length p.reverse.states) (length a.states))) is
-      ∙ ap span_of_all (glued_are m p ls rs left right i v n (length p.reverse.states) (length f.states)
-      (λ q lt. hull_there m f before values i q v left ahead e lt) (λ r lt. hull_there m p.reverse behind values i r v right back e lt))
+      subst (λ (a : Body). FindsAlike asked (span_of_all (spans_between m p left right i v n (length p.reverse.states) (length a.states))) GluedSpan) (sym is)
+      (glued_all_found asked m p ls rs left right i v n (length p.reverse.states) (length f.states)
+      (λ q lt. hull_there m f before values i q v left ahead e lt) (λ r lt. hull_there m p.reverse behind values i r v right back e lt)
+      (⊎_elim (λ both. inl both) (λ narrow. inr (sym width ∙ ap (λ (a : Body). a.wide) is ∙ narrow)) alone)
+      (subst (λ (a : Body). IsServed (sides m) a.mark n asked) (sym is) served))
 
-  glued_by : (left right : AnyRow) → lanes_of right ≡ lanes_of left → IsRowOf f before values left → IsRowOf p.reverse behind values right →
-      glued_between p left right i v n ≡ GluedSpan
-  glued_by (Narrow left) (Narrow right) same ahead back = glued_in 6 left right ahead.packed back.packed
-  glued_by (Wide left) (Wide right) same ahead back = glued_in 10 left right ahead.packed back.packed
-  glued_by (Narrow left) (Wide right) same ahead back = absurd (omega (arith, same))
-  glued_by (Wide left) (Narrow right) same ahead back = absurd (omega (arith, same))
+  glued_by : (left right : AnyRow) → form_of right ≡ form_of left → IsRowOf f before values left → IsRowOf p.reverse behind values right →
+      IsServed (form_sides (form_of left)) f.mark n asked → FindsAlike asked (glued_between p left right i v n) GluedSpan
+  glued_by (Narrow left) (Narrow right) same ahead back served = glued_in 6 left right ahead.packed back.packed (inl refl) served
+  glued_by (Upper left) (Upper right) same ahead back served = glued_in 3 left right ahead.packed back.packed (inr ahead.width) served
+  glued_by (Lower left) (Lower right) same ahead back served = glued_in 4 left right ahead.packed back.packed (inr ahead.width) served
+  glued_by (Wide left) (Wide right) same ahead back served = glued_in 10 left right ahead.packed back.packed (inl refl) served
+  glued_by (Narrow left) (Upper right) same ahead back served = cc
+  glued_by (Narrow left) (Lower right) same ahead back served = cc
+  glued_by (Narrow left) (Wide right) same ahead back served = cc
+  glued_by (Upper left) (Narrow right) same ahead back served = cc
+  glued_by (Upper left) (Lower right) same ahead back served = cc
+  glued_by (Upper left) (Wide right) same ahead back served = cc
+  glued_by (Lower left) (Narrow right) same ahead back served = cc
+  glued_by (Lower left) (Upper right) same ahead back served = cc
+  glued_by (Lower left) (Wide right) same ahead back served = cc
+  glued_by (Wide left) (Narrow right) same ahead back served = cc
+  glued_by (Wide left) (Upper right) same ahead back served = cc
+  glued_by (Wide left) (Lower right) same ahead back served = cc
 
--- rows of one width have as many lanes
-lanes_same : (left right : AnyRow) → is_wide (lanes_of right) ≡ is_wide (lanes_of left) → lanes_of right ≡ lanes_of left
-lanes_same (Narrow left) (Narrow right) e = refl
-lanes_same (Wide left) (Wide right) e = refl
-lanes_same (Narrow left) (Wide right) e = never_added e
-lanes_same (Wide left) (Narrow right) e = never_added (sym e)
-
--- the automata of a machine have one width
-pub one_width : (m : Machine) (p : Pair) → pair_of m ≡ Some p → p.reverse.wide ≡ p.forward.wide
-one_width m p e = let f = facts_of p (machines_keep_rules m p e).0 in f.reverse_width ∙ sym f.forward_width
+-- the automata of a machine are as wide as its pair
+pub as_wide : (m : Machine) (p : Pair) → pair_of m ≡ Some p → p.forward.wide ≡ is_wide p
+as_wide m p e = (facts_of p (machines_keep_rules m p e).0).forward_width
 
 module _ (f : Body) (before behind : Box) (values : List ℤ) (row : AnyRow) (side : BackSide) (ahead : IsRowOf f before values row) where
-  pub lanes_there : (o : Option Pair) → IsPairOf f o → ((p : Pair) → o ≡ Some p → p.reverse.wide ≡ p.forward.wide) → IsSide o behind values side →
-      lanes_of side.row.now ≡ lanes_of row
-  lanes_there None is width h = absurd h
-  lanes_there (Some p) is width h =
-      lanes_same row side.row.now (sym h.1.width ∙ width p refl ∙ ap (λ (a : Body). a.wide) is ∙ ahead.width)
+  -- they meet in a form of rows of such automata
+  pub width_there : (o : Option Pair) → IsPairOf f o → ((p : Pair) → o ≡ Some p → p.forward.wide ≡ is_wide p) → IsSide o behind values side →
+      IsFormOf side.joints.now.wide (form_of row)
+  width_there None is width h = absurd h
+  width_there (Some p) is width h =
+      h.0.wide ∙ sym (width p refl) ∙ ap (λ (a : Body). a.wide) is ∙ ahead.width ∙ ap has_wide (sym (lanes_are row))
 
   pub left_places : (to : ℕ) → to ≤ length values → (o : Option Pair) → IsPairOf f o → IsSide o behind values side →
       HavePlaces (lanes_of row) side.joints.now.left_states to (columns row)
@@ -148,51 +234,82 @@ module _ (f : Body) (before behind : Box) (values : List ℤ) (i : ℕ) (v : ℤ
 
 -- with what is told there
 
-module _ (f : Body) (place : ℕ) (cells : Box) (values : List ℤ) (i : ℕ) (v : ℤ) (row : AnyRow) (side : BackSide) (same : lanes_of side.row.now ≡ lanes_of row)
-    (ahead : IsRowOf f (cells_before place cells) values row) (e : slice_get values i ≡ Some v) (n : ℕ) (is_n : n ≡ length cells) where
-  split_is : (p : Pair) → IsPairOf f (Some p) → IsSide (Some p) (cells_after place cells) values side →
-      glued_between p row side.row.now i v n ≡ split_at f (Some p) place cells v
-  split_is p is h =
+module _ (asked : Question) (f : Body) (place : ℕ) (cells : Box) (values : List ℤ) (i : ℕ) (v : ℤ) (row : AnyRow) (side : BackSide)
+    (same : form_of side.row.now ≡ form_of row) (ahead : IsRowOf f (cells_before place cells) values row) (e : slice_get values i ≡ Some v) (n : ℕ)
+    (is_n : n ≡ length cells) (served : IsServed (form_sides (form_of row)) f.mark n asked) where
+  split_found : (p : Pair) → IsPairOf f (Some p) → p.forward.wide ≡ is_wide p → IsSide (Some p) (cells_after place cells) values side →
+      FindsAlike asked (glued_between p row side.row.now i v n) (split_at f (Some p) place cells v)
+  split_found p is width h =
       let ls = hulls_at f (cells_before place cells) v in let rs = back_hulls (Some p) (cells_after place cells) v in
-      let m = length p.reverse.states in
-      glued_by f (cells_before place cells) (cells_after place cells) values i v e p n is row side.row.now same ahead h.1
-      ∙ split_one f (Some p) place cells v v ls rs n m (span_of_all (glued_all (Some p) ls rs v n m (length f.states))) refl refl refl is_n refl refl
+      let m = length p.reverse.states in let all = span_of_all (glued_all (Some p) ls rs v n m (length f.states)) in
+      subst (FindsAlike asked (glued_between p row side.row.now i v n))
+      (split_one f (Some p) place cells v v ls rs n m all refl refl refl is_n refl refl)
+      (glued_by asked f (cells_before place cells) (cells_after place cells) values i v e p n is width row side.row.now same ahead h.1 served)
 
-  pub never_there : (asked : Question) (o : Option Pair) → IsPairOf f o → IsSide o (cells_after place cells) values side →
+  pub never_there : (o : Option Pair) → IsPairOf f o → ((p : Pair) → o ≡ Some p → p.forward.wide ≡ is_wide p) →
+      IsSide o (cells_after place cells) values side →
       ((p : Pair) → AreJoints p side.joints.now → (x : ℤ) → Excludes asked (glued_between p row side.row.now i x n) → ⊥) →
       Excludes asked (split_at f o place cells v) → ⊥
-  never_there asked None is h told nothing_has = absurd h
-  never_there asked (Some p) is h told nothing_has = told p h.0 v (subst (Excludes asked) (sym (split_is p is h)) nothing_has)
+  never_there None is width h told nothing_has = absurd h
+  never_there (Some p) is width h told nothing_has =
+      let glued = glued_between p row side.row.now i v n in let split = split_at f (Some p) place cells v in
+      told p h.0 v (excludes_found asked split glued (finds_back asked glued split (split_found p is (width p refl) h)) nothing_has)
 
-module _ (f : Body) (place : ℕ) (cells : Box) (values : List ℤ) (i : ℕ) (v : ℤ) (row : AnyRow) (side : BackSide) (same : lanes_of side.row.now ≡ lanes_of row)
-    (ahead : IsRowOf f (cells_before place cells) values row) (e : slice_get values i ≡ Some v) (s : SoFar) (known : IsSoFar s) (n : ℕ)
-    (is_n : n ≡ length cells) (w : ℤ) (is_w : w ≡ v) where
-  told_is : (o : Option Pair) (answer : Option Span) → IsPairOf f o → IsSide o (cells_after place cells) values side →
-      ((p : Pair) → AreJoints p side.joints.now → IsAnswer (Excludes s.asked) (span_hull s.span (glued_between p row side.row.now i w n)) answer) →
-      IsAnswer (Excludes s.asked) (span_hull s.span (split_at f o place cells v)) answer
-  told_is None answer is h told = absurd h
-  told_is (Some p) answer is h told =
-      subst (λ z. IsAnswer (Excludes s.asked) (span_hull s.span z) answer)
-      (ap (λ x. glued_between p row side.row.now i x n) is_w ∙ split_is f place cells values i v row side same ahead e n is_n p is h)
-      (told p h.0)
+-- a span with the glued span is an answer
 
-  pub none_told : (o : Option Pair) → IsPairOf f o → IsSide o (cells_after place cells) values side →
+none_by : (s : SoFar) (glued split : Span) → FindsAlike s.asked glued split → IsAnswer (Excludes s.asked) (span_hull s.span glued) None →
+    WithParts s (split ∷ []) None
+none_by s glued split found told = part_found s glued split None found told
+
+some_by : (s : SoFar) (glued split t : Span) → FindsAlike s.asked glued split → IsAnswer (Excludes s.asked) (span_hull s.span glued) (Some t) →
+    WithParts s (split ∷ []) (Some (record { asked = s.asked; span = t }))
+some_by s glued split t found told =
+    part_found s glued split (Some (record { asked = s.asked; span = t })) found (
+      refl,
+      finds_same s.asked t (span_hull s.span glued) told.0,
+      record {
+        form = ap (λ z. span_hull z none_span) told.0 ∙ hull_canonical s.span glued ∙ sym told.0;
+        excluded = subst (Excludes s.asked) (sym told.0) told.1;
+      },
+    )
+
+-- at the last cell
+pub last_found : (s : SoFar) (o : Option SoFar) (a : Body) (place : ℕ) (cells : Box) (values : List ℤ) (i : ℕ) (v : ℤ) (row : AnyRow) (n : ℕ) (part : Span) →
+    IsRowOf a (cells_before place cells) values row → slice_get values i ≡ Some v → IsTrue (is_automaton a) →
+    IsServed (form_sides (form_of row)) a.mark n s.asked → n ≡ length cells → part ≡ finish_hull (lanes_of row) a (columns row) i n →
+    WithParts s (part ∷ []) o → WithParts s (last_at a place cells v ∷ []) o
+last_found s o a place cells values i v row n part is e rules served is_n is_part h =
+    let hull = finish_hull (lanes_of row) a (columns row) i n in let hs = hulls_at a (cells_before place cells) v in
+    part_found s part (last_at a place cells v) o
+    (finds_on s.asked part hull (last_at a place cells v) (finds_same s.asked part hull is_part)
+    (subst (FindsAlike s.asked hull) (last_one a place cells v hs n (span_of_all (finishes a hs n (length a.states))) refl is_n refl)
+    (finish_alike s.asked a (cells_before place cells) values i v row n is e rules served)))
+    h
+
+module _ (s : SoFar) (f : Body) (place : ℕ) (cells : Box) (values : List ℤ) (i : ℕ) (v : ℤ) (row : AnyRow) (side : BackSide)
+    (same : form_of side.row.now ≡ form_of row) (ahead : IsRowOf f (cells_before place cells) values row) (e : slice_get values i ≡ Some v) (n : ℕ)
+    (is_n : n ≡ length cells) (served : IsServed (form_sides (form_of row)) f.mark n s.asked) (w : ℤ) (is_w : w ≡ v) where
+  there_found : (p : Pair) → IsPairOf f (Some p) → p.forward.wide ≡ is_wide p → IsSide (Some p) (cells_after place cells) values side →
+      FindsAlike s.asked (glued_between p row side.row.now i w n) (split_at f (Some p) place cells v)
+  there_found p is width h =
+      subst (λ x. FindsAlike s.asked (glued_between p row side.row.now i x n) (split_at f (Some p) place cells v)) (sym is_w)
+      (split_found s.asked f place cells values i v row side same ahead e n is_n served p is width h)
+
+  pub none_told : (o : Option Pair) → IsPairOf f o → ((p : Pair) → o ≡ Some p → p.forward.wide ≡ is_wide p) →
+      IsSide o (cells_after place cells) values side →
       ((p : Pair) → AreJoints p side.joints.now → IsAnswer (Excludes s.asked) (span_hull s.span (glued_between p row side.row.now i w n)) None) →
       WithParts s (split_at f o place cells v ∷ []) None
-  none_told o is h told = told_is o None is h told
+  none_told None is width h told = absurd h
+  none_told (Some p) is width h told =
+      none_by s (glued_between p row side.row.now i w n) (split_at f (Some p) place cells v) (there_found p is (width p refl) h) (told p h.0)
 
-  pub some_told : (o : Option Pair) (t : Span) → IsPairOf f o → IsSide o (cells_after place cells) values side →
+  pub some_told : (o : Option Pair) (t : Span) → IsPairOf f o → ((p : Pair) → o ≡ Some p → p.forward.wide ≡ is_wide p) →
+      IsSide o (cells_after place cells) values side →
       ((p : Pair) → AreJoints p side.joints.now → IsAnswer (Excludes s.asked) (span_hull s.span (glued_between p row side.row.now i w n)) (Some t)) →
       WithParts s (split_at f o place cells v ∷ []) (Some (record { asked = s.asked; span = t }))
-  some_told o t is h told =
-      let a = told_is o (Some t) is h told in (
-        refl,
-        a.0,
-        record {
-          form = ap (λ z. span_hull z none_span) a.0 ∙ hull_canonical s.span (split_at f o place cells v) ∙ sym a.0;
-          excluded = subst (Excludes s.asked) (sym a.0) a.1;
-        },
-      )
+  some_told None t is width h told = absurd h
+  some_told (Some p) t is width h told =
+      some_by s (glued_between p row side.row.now i w n) (split_at f (Some p) place cells v) t (there_found p is (width p refl) h) (told p h.0)
 
 -- of a machine with a reverse automaton
 

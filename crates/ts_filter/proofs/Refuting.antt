@@ -5,7 +5,7 @@ use Rattle.std.proofs.lemmas.Bool.{eq-eqb, eqb-true, ltb-false, cases_lt}
 use Rattle.std.proofs.lemmas.List.Quantifiers.{position-Some}
 use Rattle.std.proofs.lemmas.List.Sums.{fails_before_first}
 use Rattle.std.proofs.lemmas.Option.{same_Some, slice_get_within, slice_get-get_or, get_or_from_slice_get}
-use Rattle.std.specs.Prelude.{is_some, nat_eq, nat_lt}
+use Rattle.std.specs.Prelude.{Contains, is_some, nat_eq, nat_lt}
 use Rattle.std.specs.List.{position, position_or_len}
 use Rattle.ts_base.specs.declared.ext.Ext.{Ext}
 use Rattle.ts_base.specs.declared.ext.Ext.TheVariants.{NegInf}
@@ -125,6 +125,18 @@ module _ (rs : List Require) (term : ℕ) (s : Span) where
           let from = none_before_first first e h.0 h.1 in
           let to = behind (h.0 - 1) h.1.require h.1.is.1 h.1.of_term in
           omega (arith, from, to, last)
+
+-- where the first one of the term is the last, it is the only one
+pub only_there : (rs : List Require) (term first end : ℕ) (d : Require) → position (λ (q : Require). nat_eq q.term term) rs ≡ Some first →
+    NoneFrom rs term end → end ≤ first + 1 → (r : Require) → Contains rs r → r.term ≡ term → r ≡ get_or rs first d
+only_there rs term first end d e behind last r there of_term =
+    let own : Require → Bool = λ (q : Require). nat_eq q.term term in
+    let i = there.0 in let is : slice_get rs i ≡ Some r = slice_get-get_or rs i r there.1 ∙ ap Some there.2 in
+    let to = behind i r is of_term in
+    ⊎_elim
+    (λ before. absurd (clash _ (ap own there.2 ∙ eq-eqb r.term term of_term) ((position-Some own rs first r e).2 i before)))
+    (λ from. let same : first ≡ i = omega (arith, from, to, last) in
+    sym (ap (λ j. get_or rs j d) same ∙ get_or_from_slice_get rs i r d is)) (cases_lt i first)
 
 -- the requirements of the term stand before the place behind the last one
 

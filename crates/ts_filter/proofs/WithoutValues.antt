@@ -5,16 +5,18 @@ use Rattle.std.specs.List.{range_with_len, remove_range}
 use Rattle.std.proofs.Math.ListN.{get_or-map}
 use Rattle.std.proofs.Math.Seq.{take-nil, drop-nil, take-append-add, drop-append-add}
 use Rattle.std.proofs.lemmas.Grind.{flat_map-append}
-use Rattle.std.proofs.lemmas.List.{get_or_append_left, get_or-append-add, get_or-take, get_or-drop, length-append, length-drop, length-map, length-take, take-append-drop}
+use Rattle.std.proofs.lemmas.List.{take-map, drop-map, map-append, get_or_append_left, get_or-append-add, get_or-take, get_or-drop, length-append, length-drop, length-map, length-take, take-append-drop}
 use Rattle.std.proofs.lemmas.List.FromFn.{length-map-range_with_len}
 use Rattle.ts_automaton.specs.declared.regs.Hull.{Hull}
 use Rattle.ts_automaton.specs.Body.{Body}
 use Rattle.ts_bound.specs.HullTables.{hull_at, hulls_at, row_of}
+use Rattle.ts_bound.specs.PackedRows.{seen_row}
 use Rattle.ts_row.specs.Rows.{IsColumn, IsRow, flat_row, hull_in, lanes_of, nothing}
 use Rattle.ts_sweep.specs.declared.packed.PackedHull.{PackedHull}
 use Rattle.ts_sweep.specs.Packed.{IsPacked, unpacked}
+use Rattle.ts_sweep.specs.Sides.{Sides, lane_count, seen_hull}
 use Rattle.ts_filter.specs.declared.any_row.AnyRow.{AnyRow}
-use Rattle.ts_filter.specs.declared.any_row.AnyRow.TheVariants.{Narrow, Wide}
+use Rattle.ts_filter.specs.declared.any_row.AnyRow.TheVariants.{Narrow, Upper, Lower, Wide}
 use Rattle.ts_filter.specs.declared.gone.Gone.{Gone}
 use Rattle.ts_filter.specs.declared.planned.Planned.{Planned}
 use Rattle.ts_filter.specs.AnyRows.{columns_without, row_without}
@@ -50,11 +52,23 @@ lost_between before now from to same rest =
     sym (take-append-drop from now) ∙ ap (λ l. l ++ drop from now) same ∙ ap (λ l. take from before ++ l) (sym rest)
 
 -- the row of a cell that has lost values: the hulls of the others are as they were
-pub row_lost : (a : Body) (before : Box) (values : List ℤ) (g : Gone) →
+
+all_lost : (a : Body) (before : Box) (values : List ℤ) (g : Gone) →
     without (length a.states) g (row_of a before values) ≡ row_of a before (remove_range values g.from g.to)
 unfolding row_of hulls_at
-row_lost a before values g =
+all_lost a before values g =
     parts_without (hulls_at a before) (length a.states) (λ v. length-map-range_with_len (hull_at a before v) 0 (length a.states)) values g.from g.to
+
+map_without : {X Y : Type 0} (f : X → Y) (xs : List X) (i j : ℕ) → remove_range (map f xs) i j ≡ map f (remove_range xs i j)
+map_without f xs i j =
+    ap (λ l. l ++ drop j (map f xs)) (take-map f i xs) ∙ ap (λ l. map f (take i xs) ++ l) (drop-map f j xs) ∙ sym (map-append f (take i xs) (drop j xs))
+
+-- and so is what is seen of them
+pub row_lost : (ends : Sides) (a : Body) (before : Box) (values : List ℤ) (g : Gone) →
+    without (length a.states) g (seen_row ends (row_of a before values)) ≡ seen_row ends (row_of a before (remove_range values g.from g.to))
+row_lost ends a before values g =
+    map_without (seen_hull ends) (row_of a before values) (g.from * length a.states) (g.to * length a.states)
+    ∙ ap (seen_row ends) (all_lost a before values g)
 
 -- ranges of places
 
@@ -66,7 +80,8 @@ front_places p (suc k) (suc f) =
     ap (λ l. p ∷ l) (front_places (p + 1) k f) ∙ ap (range_with_len p) more
 
 rest_places : (p k t : ℕ) → drop t (range_with_len p k) ≡ range_with_len (p + t) (k - t)
-rest_places p k zero = let here : p ≡ p + 0 = omega arith in let all : k ≡ k - 0 = omega arith in ap (λ q. range_with_len q k) here ∙ ap (range_with_len (p + 0)) all
+rest_places p k zero =
+    let here : p ≡ p + 0 = omega arith in let all : k ≡ k - 0 = omega arith in ap (λ q. range_with_len q k) here ∙ ap (range_with_len (p + 0)) all
 rest_places p zero (suc t) = let none : 0 ≡ 0 - suc t = omega arith in ap (range_with_len (p + suc t)) none
 rest_places p (suc k) (suc t) =
     let here : p + 1 + t ≡ p + suc t = omega arith in let left : k - t ≡ suc k - suc t = omega arith in
@@ -140,18 +155,21 @@ module _ (n s f t k : ℕ) (old : List (List (PackedHull n))) (h : IsRow n s k o
   packed_column : (q : ℕ) → q < s → IsColumn n (min f k + (k - t)) (get_or new q [])
   packed_column q lt =
       let column = get_or old q [] in let c = h.columns q lt in
-      subst (IsColumn n (min f k + (k - t))) (sym (column_without f t old q)) (count_without column k f t c.0, λ i less. packed_at i less column c (split i (min f k)))
+      subst (IsColumn n (min f k + (k - t))) (sym (column_without f t old q)) (
+        count_without column k f t c.0,
+        λ i less. packed_at i less column c (split i (min f k)),
+      )
     where
       split : (i m : ℕ) → (i < m) ⊎ (m ≤ i)
       split i m = grind arith
 
       packed_at : (i : ℕ) → i < min f k + (k - t) → (column : List (PackedHull n)) → IsColumn n k column → (i < min f k) ⊎ (min f k ≤ i) →
-          IsPacked n (lanes_of n (get_or (remove_range column f t) i (nothing n)))
+          IsPacked (lane_count n) (lanes_of n (get_or (remove_range column f t) i (nothing n)))
       packed_at i less column c (inl lt) =
-          subst (λ x. IsPacked n (lanes_of n x)) (sym (front_without column k f t c.0 i (nothing n) lt)) (c.1 i (omega (arith, lt)))
+          subst (λ x. IsPacked (lane_count n) (lanes_of n x)) (sym (front_without column k f t c.0 i (nothing n) lt)) (c.1 i (omega (arith, lt)))
       packed_at i less column c (inr le) =
           let j = i - min f k in let sum : min f k + j ≡ i = omega (arith, le) in
-          subst (λ x. IsPacked n (lanes_of n x))
+          subst (λ x. IsPacked (lane_count n) (lanes_of n x))
           (sym (ap (λ z. get_or (remove_range column f t) z (nothing n)) (sym sum) ∙ rest_without column k f t c.0 j (nothing n)))
           (c.1 (t + j) (omega (arith, less, le)))
 
@@ -161,15 +179,15 @@ module _ (n s f t k : ℕ) (old : List (List (PackedHull n))) (h : IsRow n s k o
   front_hull : (q i : ℕ) → q < s → i < min f k → hull_in n new q (0 + i) ≡ hull_in n old q (0 + i)
   front_hull q i lt less =
       let here : 0 + i ≡ i = omega arith in
-      ap (hull_in n new q) here ∙ ap (λ column. unpacked (get_or column i (nothing n)).at) (column_without f t old q)
-      ∙ ap (λ (x : PackedHull n). unpacked x.at) (front_without (get_or old q []) k f t (h.columns q lt).0 i (nothing n) less)
+      ap (hull_in n new q) here ∙ ap (λ column. unpacked (lanes_of n (get_or column i (nothing n)))) (column_without f t old q)
+      ∙ ap (λ (x : PackedHull n). unpacked (lanes_of n x)) (front_without (get_or old q []) k f t (h.columns q lt).0 i (nothing n) less)
       ∙ sym (ap (hull_in n old q) here)
 
   rest_hull : (q i : ℕ) → q < s → i < k - t → hull_in n new q (0 + min f k + i) ≡ hull_in n old q (0 + t + i)
   rest_hull q i lt less =
       let here : 0 + min f k + i ≡ min f k + i = omega arith in let there : 0 + t + i ≡ t + i = omega arith in
-      ap (hull_in n new q) here ∙ ap (λ column. unpacked (get_or column (min f k + i) (nothing n)).at) (column_without f t old q)
-      ∙ ap (λ (x : PackedHull n). unpacked x.at) (rest_without (get_or old q []) k f t (h.columns q lt).0 i (nothing n))
+      ap (hull_in n new q) here ∙ ap (λ column. unpacked (lanes_of n (get_or column (min f k + i) (nothing n)))) (column_without f t old q)
+      ∙ ap (λ (x : PackedHull n). unpacked (lanes_of n x)) (rest_without (get_or old q []) k f t (h.columns q lt).0 i (nothing n))
       ∙ sym (ap (hull_in n old q) there)
 
   flat_left : flat_row n s (min f k + (k - t)) new ≡ remove_range (flat_row n s k old) (f * s) (t * s)
@@ -201,5 +219,7 @@ left_of n s f t old h =
 
 pub made_without : (p : Planned) (g : Gone) (row : AnyRow) → HasStates p row →
     HasStates p (row_without g.from g.to row) × (hulls_in p.states (row_without g.from g.to row) ≡ without p.states g (hulls_in p.states row))
-made_without p g (Narrow row) h = let l = left_of 6 p.states g.from g.to row h.is_row in (record { width = h.width; is_row = l.0 }, l.1)
-made_without p g (Wide row) h = let l = left_of 10 p.states g.from g.to row h.is_row in (record { width = h.width; is_row = l.0 }, l.1)
+made_without p g (Narrow row) h = let l = left_of 6 p.states g.from g.to row h.is_row in (record { form = h.form; is_row = l.0 }, l.1)
+made_without p g (Upper row) h = let l = left_of 3 p.states g.from g.to row h.is_row in (record { form = h.form; is_row = l.0 }, l.1)
+made_without p g (Lower row) h = let l = left_of 4 p.states g.from g.to row h.is_row in (record { form = h.form; is_row = l.0 }, l.1)
+made_without p g (Wide row) h = let l = left_of 10 p.states g.from g.to row h.is_row in (record { form = h.form; is_row = l.0 }, l.1)

@@ -2,26 +2,34 @@
 use Rattle.std.specs.Prelude.{◌≡◌, ◌≤◌, ℕ, ℤ, List, length, Option, None, Some, MatchOption, slice_get}
 use Rattle.ts_base.specs.Windows.{looked_at}
 use Rattle.ts_bound.specs.HullTables.{cells_before, cells_after}
-use Rattle.ts_bound.specs.Looks.{first_looked, last_looked, place_in}
+use Rattle.ts_bound.specs.Looks.{count_looked, first_looked, last_looked, place_in}
 use Rattle.ts_bound.specs.TermSpans.{Automata, LooksIn, value_span}
 use Rattle.ts_glue.specs.Pairs.{Pair}
 use Rattle.ts_meet.specs.Joints.{AreJoints}
 use Rattle.ts_meet.specs.Settled.{Between}
+use Rattle.ts_sweep.specs.Sides.{Sides}
 use Rattle.ts_filter.specs.declared.any_row.AnyRow.{AnyRow}
 use Rattle.ts_filter.specs.declared.cell_hulls.BackSide.{BackSide}
 use Rattle.ts_filter.specs.declared.question.Question.{Question}
-use Rattle.ts_filter.specs.AnyRows.{IsRowOf}
+use Rattle.ts_filter.specs.Alike.{IsServed}
+use Rattle.ts_filter.specs.AnyRows.{IsRowOf, form_of}
 use Rattle.ts_filter.specs.Boxes.{Box, values_at}
 use Rattle.ts_filter.specs.Question.{Excludes}
 
--- what contracts see of them: whose they are, and where
+-- what contracts see of them: whose they are, where, and which ends they have
 pub record AtCell : Type 0 where
   pub machine : Automata
   pub cells : Box
   pub cell : ℕ
+  pub ends : Sides
 
-abbrev pub at_cell : Automata → Box → ℕ → AtCell
-at_cell a b k = record { machine = a; cells = b; cell = k }
+abbrev pub at_cell : Automata → Box → ℕ → Sides → AtCell
+at_cell a b k ends = record { machine = a; cells = b; cell = k; ends = ends }
+
+-- their ends are enough for the question
+abbrev pub Serves : AtCell → Question → Type 0
+Serves t asked =
+    IsServed t.ends t.machine.forward.mark (count_looked t.machine.window (length t.cells)) asked
 
 -- the machine has hulls at cell k: it looks at that cell, and where it can't be split, at none behind it
 pub record HasHulls (a : Automata) (k : ℕ) (b : Box) : Type 0 where
@@ -41,6 +49,11 @@ seen_after a k b = cells_after (place_in a.window k) (looked_at a.window b)
 abbrev pub IsAheadRow : Automata → ℕ → Box → AnyRow → Type 0
 IsAheadRow a k b row = IsRowOf a.forward (seen_before a k b) (values_at k b) row
 
+-- a row of the other side has the same form
+abbrev pub HasForm : Option BackSide → AnyRow → Type 0
+HasForm None row = Unit {0}
+HasForm (Some side) row = form_of side.row.now ≡ form_of row
+
 -- a row of the reverse automaton of a pair, of a cell with these values before which it reads these cells, with how the
 -- pair is glued
 abbrev pub IsSide : Option Pair → Box → List ℤ → BackSide → Type 0
@@ -53,6 +66,7 @@ IsBackSide a k b side = IsSide a.pair (seen_after a k b) (values_at k b) side
 
 -- the rows are those of the cell; the last cell that is looked at needs none of the reverse automaton
 pub record AreHulls (a : Automata) (b : Box) (k : ℕ) (row : AnyRow) (back : Option BackSide) : Type 0 where
+  pub form : HasForm back row
   pub there : HasHulls a k b
   pub ahead : IsAheadRow a k b row
   pub behind : MatchOption back (k ≡ last_looked a.window (length b)) (IsBackSide a k b)

@@ -3,7 +3,6 @@
 use Rattle.std.specs.Prelude.{◌≡◌, ◌<◌, ◌≤◌, ℕ, ◌-◌, List, [], Contains, length, take, drop, get_or, Option, None, Some}
 use Rattle.ts_base.specs.Windows.{looked_at}
 use Rattle.ts_automaton.specs.Body.{Body}
-use Rattle.ts_bound.specs.HullTables.{forward_rows}
 use Rattle.ts_bound.specs.Looks.{place_in}
 use Rattle.ts_bound.specs.TermSpans.{Automata, LooksIn}
 use Rattle.ts_glue.specs.Pairs.{Pair}
@@ -11,35 +10,43 @@ use Rattle.ts_meet.specs.declared.joints.Joints.{Joints}
 use Rattle.ts_meet.specs.Joints.{AreJoints}
 use Rattle.ts_model.specs.declared.model.Require.{Require}
 use Rattle.ts_filter.specs.declared.reading.Way.TheVariants.{FromFirst, FromLast}
+use Rattle.ts_filter.specs.AnyRows.{form_sides}
 use Rattle.ts_filter.specs.Boxes.{Box}
 use Rattle.ts_filter.specs.Drops.{IsFirstOf}
 use Rattle.ts_filter.specs.Gone.{AreLost}
+use Rattle.ts_filter.specs.declared.any_row.Form.{Form}
 use Rattle.ts_filter.specs.declared.gone.Change.{Change}
 use Rattle.ts_filter.specs.Reading.{in_order}
 use Rattle.ts_filter.specs.declared.planned.Planned.{Planned}
-use Rattle.ts_filter.specs.RowStacks.{Rows, Laid, GoOn, IsPlanned, Stack}
+use Rattle.ts_sweep.specs.Sides.{Sides}
+use Rattle.ts_filter.specs.RowStacks.{Rows, Laid, GoOn, IsPlanned, Sight, Stack, rows_seen, seen_by, sight}
 use Rattle.ts_filter.specs.TermDrops.{IsQuiet, IsTermDrop}
 
--- these are the rows of the cells that the automaton reads first
-abbrev pub AreFirst : Body → Box → Rows → Type 0
-AreFirst a cells rows = rows ≡ take (length rows) (forward_rows a cells)
+-- these are what is seen of the rows of the cells that the automaton reads first
+abbrev pub AreFirst : Sight → Box → Rows → Type 0
+AreFirst a cells rows = rows ≡ take (length rows) (rows_seen a cells)
 
 -- the rows are made by the plan of the automaton; the known ones are those of the cells that it reads first, and from a
 -- place on each of those that lie there is followed by its next one
 pub record AreRows (a : Body) (cells : Box) (s : Stack) : Type 0 where
   pub planned : IsPlanned a s.planned
-  pub known : AreFirst a cells s.known
-  pub laid : GoOn a cells s.laid.rows s.laid.from
+  pub known : AreFirst (seen_by a s.planned) cells s.known
+  pub laid : GoOn (seen_by a s.planned) cells s.laid.rows s.laid.from
 
 -- the rows of a machine: forward ones, and backward ones, that of the last cell first; and with them those that aren't
--- known to be of the present box; and requirements by which no drop is possible
+-- known to be of the present box; the form of their hulls; and requirements by which no drop is possible
 pub record KnownRows : Type 0 where
   pub machine : Automata
+  pub form : Form
   pub ahead : Rows
   pub behind : Rows
   pub laid_ahead : Laid
   pub laid_behind : Laid
   pub quiet : List Require
+
+-- the ends that are kept of them
+abbrev pub ends_of : KnownRows → Sides
+ends_of t = form_sides t.form
 
 -- the plan is that of the reverse automaton, where there is one
 abbrev pub IsPlannedBack : Option Pair → Planned → Type 0
@@ -52,29 +59,31 @@ HasJoints None joints = Unit {0}
 HasJoints (Some p) None = ⊥
 HasJoints (Some p) (Some joints) = AreJoints p joints
 
--- the rows of a machine are made by the plans of its automata, and meet as these are glued
+-- the rows of a machine are made by the plans of its automata, in one form, and meet as these are glued
 pub record AreTables (a : Automata) (ahead behind : Planned) (joints : Option Joints) : Type 0 where
   pub forward : IsPlanned a.forward ahead
   pub reverse : IsPlannedBack a.pair behind
+  pub form : behind.form ≡ ahead.form
   pub meets : HasJoints a.pair joints
 
 -- these are backward rows; a machine that can't be split has none
-abbrev pub AreBehind : Option Pair → Box → Rows → Type 0
-AreBehind None b rows = Unit {0}
-AreBehind (Some p) b rows = AreFirst p.reverse (in_order FromLast b) rows
+abbrev pub AreBehind : Option Pair → Sides → Box → Rows → Type 0
+AreBehind None ends b rows = Unit {0}
+AreBehind (Some p) ends b rows = AreFirst (sight p.reverse ends) (in_order FromLast b) rows
 
 -- of the backward rows that lie there, each is followed by its next one from a place on; a machine that can't be split
 -- has none
-abbrev pub GoOnBehind : Option Pair → Box → Laid → Type 0
-GoOnBehind None b l = Unit {0}
-GoOnBehind (Some p) b l = GoOn p.reverse (in_order FromLast b) l.rows l.from
+abbrev pub GoOnBehind : Option Pair → Sides → Box → Laid → Type 0
+GoOnBehind None ends b l = Unit {0}
+GoOnBehind (Some p) ends b l = GoOn (sight p.reverse ends) (in_order FromLast b) l.rows l.from
 
 -- the rows of a machine are rows of these cells, and the requirements that are kept with them drop no value there
 pub record AreRowsOf (cells : Box) (t : KnownRows) : Type 0 where
-  pub ahead : AreFirst t.machine.forward (in_order FromFirst cells) t.ahead
-  pub behind : AreBehind t.machine.pair cells t.behind
-  pub laid_ahead : GoOn t.machine.forward (in_order FromFirst cells) t.laid_ahead.rows t.laid_ahead.from
-  pub laid_behind : GoOnBehind t.machine.pair cells t.laid_behind
+  pub ahead : AreFirst (sight t.machine.forward (ends_of t)) (in_order FromFirst cells) t.ahead
+  pub behind : AreBehind t.machine.pair (ends_of t) cells t.behind
+  pub laid_ahead : GoOn (sight t.machine.forward (ends_of t))
+      (in_order FromFirst cells) t.laid_ahead.rows t.laid_ahead.from
+  pub laid_behind : GoOnBehind t.machine.pair (ends_of t) cells t.laid_behind
   pub quiet : (r : Require) → Contains t.quiet r → IsQuiet t.machine cells r
 
 -- they are rows of the box, of the cells that the machine looks at

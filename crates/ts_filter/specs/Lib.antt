@@ -1,4 +1,5 @@
 pub mod Accepts
+pub mod Alike
 pub mod AnyRows
 pub mod Boxes
 pub mod CellHulls

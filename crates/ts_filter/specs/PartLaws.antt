@@ -2,7 +2,7 @@
 use Rattle.ts_base.specs.declared.span.Span.{Span}
 use Rattle.ts_base.specs.SpanLayer.{IsWithin}
 use Rattle.ts_filter.specs.declared.question.Question.{Question}
-use Rattle.ts_filter.specs.declared.question.Question.TheVariants.{Compares, MeetsEach, Counts, Nothing}
+use Rattle.ts_filter.specs.declared.question.Question.TheVariants.{Compares, MeetsEach, Counts, Ranks}
 use Rattle.ts_filter.specs.Question.{Excludes}
 
 pub part_excludes : (asked : Question) (s t : Span) → IsWithin s t → Excludes asked t → Excludes asked s
@@ -18,4 +18,4 @@ part_excludes (MeetsEach own) s t within none =
       },
     )
 part_excludes (Counts goal bar) s t within none = λ v held. none v (within v held)
-part_excludes Nothing s t within none = tt
+part_excludes (Ranks goal) s t within none = tt

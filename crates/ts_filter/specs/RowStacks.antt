@@ -1,34 +1,55 @@
 -- Rows on top of one another, of which the first are known.
-use Rattle.std.specs.Prelude.{◌≡◌, ℕ, ◌+◌, ◌*◌, ◌<◌, ◌≤◌, ◌⊎◌, List, [], ◌∷◌, ◌++◌, length, map, take, drop, get_or}
+use Rattle.std.specs.Prelude.{◌≡◌, ℕ, ◌+◌, ◌*◌, ◌<◌, ◌≤◌, ◌⊎◌, ℤ, false, IsTrue, List, [], ◌∷◌, ◌++◌, length, map, take, drop, get_or}
 use Rattle.std.specs.Prelude.{Option, None, Some}
 use Rattle.std.specs.List.{remove_range}
 use Rattle.ts_automaton.specs.declared.regs.Hull.{Hull}
 use Rattle.ts_automaton.specs.Body.{Body}
-use Rattle.ts_sweep.specs.Packed.{is_wide}
+use Rattle.ts_automaton.specs.Typing.{is_automaton}
+use Rattle.ts_sweep.specs.Sides.{Sides, BothEnds}
 use Rattle.ts_row.specs.Plans.{IsPlanOf}
 use Rattle.ts_row.specs.Rows.{IsRow, flat_row}
+use Rattle.ts_bound.specs.HullTables.{forward_rows}
 use Rattle.ts_bound.specs.NextRow.{next_row}
+use Rattle.ts_bound.specs.PackedRows.{seen_row}
 use Rattle.ts_filter.specs.declared.gone.Gone.{Gone}
 use Rattle.ts_filter.specs.declared.planned.Planned.{Planned}
 use Rattle.ts_filter.specs.declared.row_stack.HullRow.{HullRow}
 use Rattle.ts_filter.specs.declared.any_row.AnyRow.{AnyRow}
-use Rattle.ts_filter.specs.AnyRows.{columns, lanes_of}
+use Rattle.ts_filter.specs.AnyRows.{IsFormOf, columns, form_of, form_sides, lanes_of}
 use Rattle.ts_filter.specs.Boxes.{Box}
 
--- the plan is that of the automaton, and so are the number of states and the width
+-- an automaton, and which ends are kept of the hulls of its registers
+pub record Sight : Type 0 where
+  pub body : Body
+  pub ends : Sides
+
+abbrev pub sight : Body → Sides → Sight
+sight a ends = record { body = a; ends = ends }
+
+-- one end alone is kept of the hulls of a narrow automaton only
+pub record IsSound (a : Sight) : Type 0 where
+  pub rules : IsTrue (is_automaton a.body)
+  pub alone : (a.ends ≡ BothEnds) ⊎ (a.body.wide ≡ false)
+
+-- an automaton with the ends that are kept in the form that is planned
+abbrev pub seen_by : Body → Planned → Sight
+seen_by a p = sight a (form_sides p.form)
+
+-- the plan is that of the automaton, and so is the number of states; the form suits the automaton
 pub record IsPlanned (a : Body) (p : Planned) : Type 0 where
   pub plan : IsPlanOf a p.plan
   pub states : p.states ≡ length a.states
   pub some : 0 < p.states
-  pub wide : p.wide ≡ a.wide
+  pub form : IsFormOf a.wide p.form
+  pub sound : IsSound (seen_by a p)
 
 -- of how many values a row is, where it has a state
 abbrev pub values_in : AnyRow → ℕ
 values_in row = length (get_or (columns row) 0 [])
 
--- it has the states and the width that are planned
+-- it has the states and the form that are planned
 pub record HasStates (p : Planned) (row : AnyRow) : Type 0 where
-  pub width : p.wide ≡ is_wide (lanes_of row)
+  pub form : form_of row ≡ p.form
   pub is_row : IsRow (lanes_of row) p.states (values_in row) (columns row)
 
 -- its hulls in a list, value by value, where it has so many states
@@ -46,13 +67,20 @@ pub record Laid : Type 0 where
   pub rows : Rows
   pub from : ℕ
 
+-- what is seen of the rows of these cells, and of the row of the next cell
+abbrev pub rows_seen : Sight → Box → Rows
+rows_seen a cells = map (seen_row a.ends) (forward_rows a.body cells)
+
+abbrev pub next_seen : Sight → List ℤ → List Hull → List ℤ → List Hull
+next_seen a values row next_values = seen_row a.ends (next_row a.body values row next_values)
+
 -- the row at place i + 1 is the next one after that at place i
-abbrev pub IsFollowed : Body → Box → Rows → ℕ → Type 0
+abbrev pub IsFollowed : Sight → Box → Rows → ℕ → Type 0
 IsFollowed a cells rows i =
-    get_or rows (i + 1) [] ≡ next_row a (get_or cells i []) (get_or rows i []) (get_or cells (i + 1) [])
+    get_or rows (i + 1) [] ≡ next_seen a (get_or cells i []) (get_or rows i []) (get_or cells (i + 1) [])
 
 -- there are no more rows than cells, and from a place on each row is followed by its next one over these cells
-pub record GoOn (a : Body) (cells : Box) (rows : Rows) (from : ℕ) : Type 0 where
+pub record GoOn (a : Sight) (cells : Box) (rows : Rows) (from : ℕ) : Type 0 where
   pub few : length rows ≤ length cells
   pub each : (i : ℕ) → from ≤ i → i + 1 < length rows → IsFollowed a cells rows i
 

@@ -1,10 +1,18 @@
-//! Packed rows of automata of either width: the one module that tells the two apart, once a row and once a value of a
-//! cell.
+//! Packed rows of automata of either width, with both ends of each register or with one alone: the one module that
+//! tells these forms apart, once a row and once a value of a cell.
 
 ghost use Rattle.std.specs.Prelude.{◌≡◌, ◌≤◌, ℤ, List, [], ◌∷◌, IfOk, IsTrue, length};
 ghost use Rattle.ts_base.specs.Limits.{IsCellValue};
 ghost use Rattle.ts_base.specs.Spans.{none_span, span_hull};
-ghost use Rattle.ts_filter.specs.AnyRows.{IsRowOf, columns, glued_between, lanes_of, row_without};
+ghost use Rattle.ts_filter.specs.AnyRows.{
+  IsFormOf,
+  IsRowOf,
+  columns,
+  form_of,
+  glued_between,
+  lanes_of,
+  row_without,
+};
 ghost use Rattle.ts_filter.specs.Question.{Excludes};
 ghost use Rattle.ts_glue.specs.Pairs.{Pair};
 ghost use Rattle.ts_meet.specs.Asked.{IsAnswer};
@@ -14,7 +22,6 @@ ghost use Rattle.ts_meet.specs.Settled.{Between, HavePlaces};
 ghost use Rattle.ts_row.specs.Plans.{IsPlanOf};
 ghost use Rattle.ts_row.specs.Rows.{IsRow};
 ghost use Rattle.ts_row.specs.Takings.{count_in};
-ghost use Rattle.ts_sweep.specs.Packed.{is_wide};
 
 use crate::question::Question;
 use crate::same_rows::are_same_columns;
@@ -24,50 +31,75 @@ use ts_base::{Memory, Span};
 use ts_bound::{first_packed_row, next_packed_row};
 use ts_meet::{Joints, Spot, asked_at, finish_at, settled_to};
 use ts_row::{Cell, PackedRow, Plan};
+use ts_sweep::packed::{LOWER, UPPER};
 
-/// A packed row of a narrow automaton, or of a wide one.
+/// How a hull is packed: with both ends of the registers of a narrow automaton, with one end alone, or with both ends
+/// of the five registers of a wide one.
+#[derive(Clone, Copy, Debug, PartialEq, Eq)]
+pub(crate) enum Form {
+    Narrow,
+    Upper,
+    Lower,
+    Wide,
+}
+
+/// A packed row, in one of the forms.
 #[derive(Drop)]
 pub(crate) enum AnyRow {
     Narrow(PackedRow<6>),
+    Upper(PackedRow<UPPER>),
+    Lower(PackedRow<LOWER>),
     Wide(PackedRow<10>),
 }
 
 impl AnyRow {
-    /// A row without hulls, for automata of a width.
-    pub(crate) fn empty(alloc: Global, wide: bool) -> AnyRow
-        ensures { wide ≡ is_wide (lanes_of result) }
+    /// A row of this form without hulls.
+    pub(crate) fn empty(alloc: Global, form: Form) -> AnyRow
+        ensures { form_of result ≡ form }
     {
-        if wide {
-            AnyRow::Wide(PackedRow::empty(alloc))
-        } else {
-            AnyRow::Narrow(PackedRow::empty(alloc))
+        match form {
+            Form::Narrow => AnyRow::Narrow(PackedRow::empty(alloc)),
+            Form::Upper => AnyRow::Upper(PackedRow::empty(alloc)),
+            Form::Lower => AnyRow::Lower(PackedRow::empty(alloc)),
+            Form::Wide => AnyRow::Wide(PackedRow::empty(alloc)),
         }
     }
 
-    /// Whether this is a row of a wide automaton.
-    pub(crate) fn is_wide(&self) -> bool
-        ensures { result ≡ is_wide (lanes_of self.now) }
+    /// The form of the row.
+    pub(crate) fn form(&self) -> Form
+        ensures { result ≡ form_of self.now }
     {
         match self {
-            AnyRow::Narrow(_) => false,
-            AnyRow::Wide(_) => true,
+            AnyRow::Narrow(_) => Form::Narrow,
+            AnyRow::Upper(_) => Form::Upper,
+            AnyRow::Lower(_) => Form::Lower,
+            AnyRow::Wide(_) => Form::Wide,
         }
     }
 
-    /// The row of the cell at which runs start, in the same memory.
+    /// The row of the cell at which runs start, in the same memory and form.
     pub(crate) fn started(
         self,
         alloc: Global,
         a: &Automaton,
         values: Cell<'_>,
     ) -> Result<AnyRow, Memory>
-        requires { a.now.wide ≡ is_wide (lanes_of self) }
-        ensures { IfOk result (λ row. IsRowOf a.now [] values.entry.values.now row) }
+        requires { IsFormOf a.now.wide (form_of self) }
+        ensures form { IfOk result (λ row. form_of row ≡ form_of self) }
+        ensures row { IfOk result (λ row. IsRowOf a.now [] values.entry.values.now row) }
     {
         match self {
             AnyRow::Narrow(mut row) => {
                 first_packed_row(alloc, a, values, &mut row)?;
                 Ok(AnyRow::Narrow(row))
+            }
+            AnyRow::Upper(mut row) => {
+                first_packed_row(alloc, a, values, &mut row)?;
+                Ok(AnyRow::Upper(row))
+            }
+            AnyRow::Lower(mut row) => {
+                first_packed_row(alloc, a, values, &mut row)?;
+                Ok(AnyRow::Lower(row))
             }
             AnyRow::Wide(mut row) => {
                 first_packed_row(alloc, a, values, &mut row)?;
@@ -76,8 +108,8 @@ impl AnyRow {
         }
     }
 
-    /// The row of a cell, from that of the cell before, whatever cells came before that one. It is made in the memory
-    /// of `self`.
+    /// The row of a cell, from that of the cell before, which has the same form, whatever cells came before that one.
+    /// It is made in the memory of `self`.
     pub(crate) fn stepped(
         self,
         alloc: Global,
@@ -87,28 +119,33 @@ impl AnyRow {
         before: &AnyRow,
         next_values: Cell<'_>,
     ) -> Result<AnyRow, Memory>
-        requires width { a.now.wide ≡ is_wide (lanes_of self) }
-        requires width_before { a.now.wide ≡ is_wide (lanes_of before.now) }
+        requires width { IsFormOf a.now.wide (form_of self) }
+        requires form_before { form_of before.now ≡ form_of self }
         requires plan { IsPlanOf a.now plan.now }
         requires row { IsRow (lanes_of before.now) (length a.now.states) (count_in values) (columns before.now) }
-        ensures { IfOk result (λ row. (cells : List (List ℤ)) → IsRowOf a.now cells values.entry.values.now before.now →
+        ensures form { IfOk result (λ row. form_of row ≡ form_of self) }
+        ensures row { IfOk result (λ row. (cells : List (List ℤ)) →
+            IsRowOf a.now cells values.entry.values.now before.now →
             IsRowOf a.now (values.entry.values.now ∷ cells) next_values.entry.values.now row) }
     {
-        match self {
-            AnyRow::Narrow(mut row) => match before {
-                AnyRow::Narrow(before) => {
-                    next_packed_row(alloc, a, plan, values, before, next_values, &mut row)?;
-                    Ok(AnyRow::Narrow(row))
-                }
-                AnyRow::Wide(_) => unreachable!(),
-            },
-            AnyRow::Wide(mut row) => match before {
-                AnyRow::Wide(before) => {
-                    next_packed_row(alloc, a, plan, values, before, next_values, &mut row)?;
-                    Ok(AnyRow::Wide(row))
-                }
-                AnyRow::Narrow(_) => unreachable!(),
-            },
+        match (self, before) {
+            (AnyRow::Narrow(mut row), AnyRow::Narrow(before)) => {
+                next_packed_row(alloc, a, plan, values, before, next_values, &mut row)?;
+                Ok(AnyRow::Narrow(row))
+            }
+            (AnyRow::Upper(mut row), AnyRow::Upper(before)) => {
+                next_packed_row(alloc, a, plan, values, before, next_values, &mut row)?;
+                Ok(AnyRow::Upper(row))
+            }
+            (AnyRow::Lower(mut row), AnyRow::Lower(before)) => {
+                next_packed_row(alloc, a, plan, values, before, next_values, &mut row)?;
+                Ok(AnyRow::Lower(row))
+            }
+            (AnyRow::Wide(mut row), AnyRow::Wide(before)) => {
+                next_packed_row(alloc, a, plan, values, before, next_values, &mut row)?;
+                Ok(AnyRow::Wide(row))
+            }
+            _ => unreachable!(),
         }
     }
 
@@ -119,6 +156,8 @@ impl AnyRow {
     {
         match self {
             AnyRow::Narrow(row) => row.take_out(from, to),
+            AnyRow::Upper(row) => row.take_out(from, to),
+            AnyRow::Lower(row) => row.take_out(from, to),
             AnyRow::Wide(row) => row.take_out(from, to),
         }
     }
@@ -126,35 +165,35 @@ impl AnyRow {
     /// The hull of the finish spans of all states, at place `i` of the values of the last cell, of a series of `n`
     /// cells.
     pub(crate) fn finish(&self, a: &Automaton, i: usize, n: u32) -> Span
-        requires { HasPlace (lanes_of self.now) (length a.now.states) i (columns self.now) }
+        requires width { IsFormOf a.now.wide (form_of self.now) }
+        requires place { HasPlace (lanes_of self.now) (length a.now.states) i (columns self.now) }
         ensures { result ≡ finish_hull (lanes_of self.now) a.now (columns self.now) i n }
     {
         match self {
             AnyRow::Narrow(row) => finish_at(a, row, i, n),
+            AnyRow::Upper(row) => finish_at(a, row, i, n),
+            AnyRow::Lower(row) => finish_at(a, row, i, n),
             AnyRow::Wide(row) => finish_at(a, row, i, n),
         }
     }
 }
 
-/// Whether two rows of automata with `states` states have the same hulls.
+/// Whether two rows of automata with `states` states have the same form and the same hulls.
 pub(crate) fn are_same(a: &AnyRow, b: &AnyRow, states: u8) -> bool
     requires first { length (columns a.now) ≡ states }
     requires second { length (columns b.now) ≡ states }
     ensures { IsTrue result → a.now ≡ b.now }
 {
-    match a {
-        AnyRow::Narrow(a) => match b {
-            AnyRow::Narrow(b) => are_same_columns(a, b, states),
-            AnyRow::Wide(_) => false,
-        },
-        AnyRow::Wide(a) => match b {
-            AnyRow::Wide(b) => are_same_columns(a, b, states),
-            AnyRow::Narrow(_) => false,
-        },
+    match (a, b) {
+        (AnyRow::Narrow(a), AnyRow::Narrow(b)) => are_same_columns(a, b, states),
+        (AnyRow::Upper(a), AnyRow::Upper(b)) => are_same_columns(a, b, states),
+        (AnyRow::Lower(a), AnyRow::Lower(b)) => are_same_columns(a, b, states),
+        (AnyRow::Wide(a), AnyRow::Wide(b)) => are_same_columns(a, b, states),
+        _ => false,
     }
 }
 
-/// The hull of a span that is known so far and of the glued spans where two rows of one width meet; none if a number of
+/// The hull of a span that is known so far and of the glued spans where two rows of one form meet; none if a number of
 /// it does what is asked.
 pub(crate) fn asked_between(
     asked: Question<'_>,
@@ -164,8 +203,9 @@ pub(crate) fn asked_between(
     right: &AnyRow,
     spot: Spot,
 ) -> Option<Span>
-    requires width { lanes_of right.now ≡ lanes_of left.now }
-    requires form { span_hull so_far none_span ≡ so_far }
+    requires form { form_of right.now ≡ form_of left.now }
+    requires width { IsFormOf joints.now.wide (form_of left.now) }
+    requires whole { span_hull so_far none_span ≡ so_far }
     requires known { Excludes asked so_far }
     requires left { HasPlace (lanes_of left.now) joints.now.left_states spot.place (columns left.now) }
     requires right { HasPlace (lanes_of right.now) joints.now.right_states spot.place (columns right.now) }
@@ -173,19 +213,24 @@ pub(crate) fn asked_between(
     ensures { (p : Pair) → AreJoints p joints.now → IsAnswer (Excludes asked.entry)
         (span_hull so_far (glued_between p left.now right.now spot.place spot.value spot.cells)) result }
 {
-    match left {
-        AnyRow::Narrow(left) => match right {
-            AnyRow::Narrow(right) => asked_at(asked, so_far, joints, left, right, spot),
-            AnyRow::Wide(_) => unreachable!(),
-        },
-        AnyRow::Wide(left) => match right {
-            AnyRow::Wide(right) => asked_at(asked, so_far, joints, left, right, spot),
-            AnyRow::Narrow(_) => unreachable!(),
-        },
+    match (left, right) {
+        (AnyRow::Narrow(left), AnyRow::Narrow(right)) => asked_at(
+            asked, so_far, joints, left, right, spot,
+        ),
+        (AnyRow::Upper(left), AnyRow::Upper(right)) => asked_at(
+            asked, so_far, joints, left, right, spot,
+        ),
+        (AnyRow::Lower(left), AnyRow::Lower(right)) => asked_at(
+            asked, so_far, joints, left, right, spot,
+        ),
+        (AnyRow::Wide(left), AnyRow::Wide(right)) => asked_at(
+            asked, so_far, joints, left, right, spot,
+        ),
+        _ => unreachable!(),
     }
 }
 
-/// The place up to which, from the place `from` on, pairs of states settle that the spans where two rows of one width
+/// The place up to which, from the place `from` on, pairs of states settle that the spans where two rows of one form
 /// meet have what is asked, whatever values are there. Of the places from there up to `to` nothing is known.
 pub(crate) fn settled_between(
     asked: Question<'_>,
@@ -196,7 +241,8 @@ pub(crate) fn settled_between(
     from: usize,
     to: usize,
 ) -> usize
-    requires width { lanes_of right.now ≡ lanes_of left.now }
+    requires form { form_of right.now ≡ form_of left.now }
+    requires width { IsFormOf joints.now.wide (form_of left.now) }
     requires left { HavePlaces (lanes_of left.now) joints.now.left_states to (columns left.now) }
     requires right { HavePlaces (lanes_of right.now) joints.now.right_states to (columns right.now) }
     requires order { from ≤ to }
@@ -205,14 +251,19 @@ pub(crate) fn settled_between(
     ensures settled { (p : Pair) → AreJoints p joints.now → Between from result (λ i. (x : ℤ) →
         Excludes asked.entry (glued_between p left.now right.now i x cells) → ⊥) }
 {
-    match left {
-        AnyRow::Narrow(left) => match right {
-            AnyRow::Narrow(right) => settled_to(asked, joints, left, right, cells, from, to),
-            AnyRow::Wide(_) => unreachable!(),
-        },
-        AnyRow::Wide(left) => match right {
-            AnyRow::Wide(right) => settled_to(asked, joints, left, right, cells, from, to),
-            AnyRow::Narrow(_) => unreachable!(),
-        },
+    match (left, right) {
+        (AnyRow::Narrow(left), AnyRow::Narrow(right)) => settled_to(
+            asked, joints, left, right, cells, from, to,
+        ),
+        (AnyRow::Upper(left), AnyRow::Upper(right)) => settled_to(
+            asked, joints, left, right, cells, from, to,
+        ),
+        (AnyRow::Lower(left), AnyRow::Lower(right)) => settled_to(
+            asked, joints, left, right, cells, from, to,
+        ),
+        (AnyRow::Wide(left), AnyRow::Wide(right)) => settled_to(
+            asked, joints, left, right, cells, from, to,
+        ),
+        _ => unreachable!(),
     }
 }

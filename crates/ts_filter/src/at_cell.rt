@@ -39,7 +39,7 @@ impl<'a> BoxTables<'a> {
             ↔ Excludes asked.entry (term_span self.old.machine p cells.now.present)) }
     {
         let k = self.read_at(p);
-        self.make_at(alloc, k, cells)?;
+        self.make_at(alloc, asked, k, cells)?;
         let value = self.hulls_at(k, cells).showing(asked, self.likely_at(k));
         match value {
             Some(v) => {
@@ -71,7 +71,7 @@ impl<'a> BoxTables<'a> {
         if !self.looks_at(k) {
             return self.excluded_at(alloc, asked, k, cells);
         }
-        self.make_at(alloc, k, cells)?;
+        self.make_at(alloc, asked, k, cells)?;
         Ok(self.hulls_at(k, cells).value_excludes(asked, v))
     }
 }

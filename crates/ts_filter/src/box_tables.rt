@@ -1,24 +1,29 @@
 //! The hulls of a machine that are known of a box while the box changes. The questions that they answer are in
 //! `at_cell`, `first_cell`, `drops` and `kept`.
 
-ghost use Rattle.std.specs.Prelude.{◌≡◌, ◌↔◌, ◌≤◌, [], IsTrue, MatchOption, OnOk, None, length};
+ghost use Rattle.std.specs.Prelude.{◌≡◌, ◌↔◌, ◌≤◌, [], IfSome, IsTrue, MatchOption, OnOk, None, length};
 ghost use Rattle.ts_base.specs.Windows.{LooksInside, looked_at};
-ghost use Rattle.ts_bound.specs.Looks.{first_looked, is_looked, last_looked, read_at};
+ghost use Rattle.ts_bound.specs.Looks.{count_looked, first_looked, is_looked, last_looked, read_at};
 ghost use Rattle.ts_bound.specs.TermSpans.{LooksIn, automata_of};
 ghost use Rattle.ts_filter.specs.Boxes.{Box};
-ghost use Rattle.ts_filter.specs.CellHulls.{HasHulls, IsBackSide, at_cell};
+ghost use Rattle.ts_filter.specs.Alike.{IsServed};
+ghost use Rattle.ts_filter.specs.AnyRows.{IsFormOf, form_of, form_sides};
+ghost use Rattle.ts_filter.specs.CellHulls.{HasHulls, IsBackSide, Serves, at_cell};
 ghost use Rattle.ts_filter.specs.HeldMachine.{machine_in};
-ghost use Rattle.ts_filter.specs.KnownRows.{AreKnown, AreRowsOf, HasJoints, HasRows, IsPlannedBack};
+ghost use Rattle.ts_filter.specs.KnownRows.{AreKnown, AreRowsOf, HasJoints, HasRows, IsPlannedBack, ends_of};
 ghost use Rattle.ts_filter.specs.KnownRows.{KnownWhereNone, StayKnown, StillKnown};
 ghost use Rattle.ts_filter.specs.Others.{StayKnownOn};
 ghost use Rattle.ts_filter.specs.RowStacks.{no_rows, nothing_laid};
 ghost use Rattle.ts_filter.specs.TermDrops.{AreAmong};
-ghost use Rattle.ts_glue.specs.Machines.{pair_of};
+ghost use Rattle.ts_glue.specs.Machines.{forward_of, pair_of};
 
+use crate::any_row::Form;
 use crate::cell_hulls::{BackSide, CellHulls};
+use crate::enough_form::enough_form;
 use crate::gone::Change;
 use crate::held_machine::HeldMachine;
 use crate::others::Others;
+use crate::question::Question;
 use crate::reading::{Reading, Way};
 use crate::row_stack::RowStack;
 use crate::rows::make_rows;
@@ -27,7 +32,7 @@ use std::alloc::Global;
 use std::marker::Model;
 use std::mem;
 use ts_base::Memory;
-use ts_bound::{ends, is_looked, read_at};
+use ts_bound::{ends, is_looked, looked_count, read_at};
 use ts_domain::Boxed;
 use ts_glue::Machine;
 use ts_meet::Joints;
@@ -40,10 +45,12 @@ use ts_model::Require;
 /// Contracts see the machine and the rows that are known, forward ones from the first cell on that is looked at,
 /// backward ones from the last one back; those that are kept; and requirements by which no drop was found at a cell
 /// that is looked at, nor is any there before one of these cells changes. At each cell that was asked about, the value
-/// that showed last that some number does what is asked is `likely` to show it again.
+/// that showed last that some number does what is asked is `likely` to show it again. The rows have the one end of each
+/// register that is enough for what was asked, once anything was `asked`, or both ends.
 #[derive(Drop)]
 pub(crate) struct BoxTables<'a> {
     machine: HeldMachine<'a>,
+    asked: bool,
     ahead: RowStack,
     behind: RowStack,
     joints: Option<Joints>,
@@ -64,6 +71,7 @@ impl<'a> Model for BoxTables<'a> {
 
     ghost view = { λ t. record {
       machine = automata_of (machine_in t.machine);
+      form = t.ahead.planned.form;
       ahead = t.ahead.known;
       behind = t.behind.known;
       laid_ahead = t.ahead.laid;
@@ -78,21 +86,16 @@ impl<'a> Model for BoxTables<'a> {
 impl<'a> BoxTables<'a> {
     /// Nothing is known of any box yet.
     pub(crate) fn new(alloc: Global, machine: HeldMachine<'a>) -> BoxTables<'a>
-        ensures value { result ≡ record {
-          machine = automata_of (machine_in machine.entry);
-          ahead = [];
-          behind = [];
-          laid_ahead = nothing_laid;
-          laid_behind = nothing_laid;
-          quiet = [];
-        } }
+        ensures machine { result.machine ≡ automata_of (machine_in machine.entry) }
         ensures known { (cells : Box) → AreRowsOf cells result }
     {
-        let ahead = RowStack::new(alloc, machine.get().forward());
-        let behind = rows_behind(alloc, machine.get());
+        let form = whole_form(machine.get());
+        let ahead = RowStack::new(alloc, machine.get().forward(), form);
+        let behind = rows_behind(alloc, machine.get(), form);
         let joints = joints_of(machine.get());
         BoxTables {
             machine,
+            asked: false,
             ahead,
             behind,
             joints,
@@ -222,13 +225,22 @@ impl<'a> BoxTables<'a> {
 }
 
 impl<'a> BoxTables<'a> {
-    /// Makes the rows of cell `k` that are missing. At the last cell that is looked at no backward row is needed.
-    pub(crate) fn make_at(&mut self, alloc: Global, k: u32, cells: &Boxed) -> Result<(), Memory>
+    /// Makes the rows of cell `k` that are missing for the question. At the last cell that is looked at no backward row
+    /// is needed.
+    pub(crate) fn make_at(
+        &mut self,
+        alloc: Global,
+        asked: Question<'_>,
+        k: u32,
+        cells: &Boxed,
+    ) -> Result<(), Memory>
         requires hulls { HasHulls self.old.machine k cells.now.present }
         requires known { AreKnown cells.now.present self.old }
         ensures known { StillKnown cells.now.present self.old self.new }
         ensures there { OnOk result (HasRows k cells.now.present self.new) }
+        ensures serves { Serves (at_cell self.new.machine cells.now.present k (ends_of self.new)) asked.entry }
     {
+        self.serve(alloc, asked, cells);
         let (first, last) = self.ends(cells);
         self.make_ahead(alloc, (k - first) as usize + 1, cells)?;
         if k < last {
@@ -237,12 +249,62 @@ impl<'a> BoxTables<'a> {
         Ok(())
     }
 
+    /// Sees to it that the rows have the ends that are enough for the question: rows that lack one are thrown away. The
+    /// first question decides; once another end is asked for, rows have both.
+    fn serve(&mut self, alloc: Global, asked: Question<'_>, cells: &Boxed)
+        requires looks { LooksIn self.old.machine cells.now.present }
+        requires known { AreKnown cells.now.present self.old }
+        ensures known { StillKnown cells.now.present self.old self.new }
+        ensures served { IsServed (ends_of self.new) self.new.machine.forward.mark
+            (count_looked self.new.machine.window (length cells.now.present)) asked.entry }
+    {
+        let form = self.form_for(asked, cells);
+        self.asked = true;
+        if form != self.ahead.form() {
+            self.turn(alloc, form);
+        }
+    }
+
+    /// The form of rows for this question and those before.
+    fn form_for(&self, asked: Question<'_>, cells: &Boxed) -> Form
+        requires looks { LooksIn self.now.machine cells.now.present }
+        ensures width { IsFormOf self.now.machine.forward.wide result }
+        ensures served { IsServed (form_sides result) self.now.machine.forward.mark
+            (count_looked self.now.machine.window (length cells.now.present)) asked.entry }
+    {
+        let m = self.machine.get();
+        if m.forward().wide() {
+            return Form::Wide;
+        }
+        let n = looked_count(m.window(), cells.cells());
+        let form = enough_form(asked, m.forward().mark(), n);
+        if self.asked && form != self.ahead.form() {
+            Form::Narrow
+        } else {
+            form
+        }
+    }
+
+    /// Throws the rows away, and makes those of this form from now on.
+    fn turn(&mut self, alloc: Global, form: Form)
+        requires width { IsFormOf self.old.machine.forward.wide form }
+        ensures machine { self.new.machine ≡ self.old.machine }
+        ensures form { self.new.form ≡ form }
+        ensures known { (cells : Box) → AreRowsOf cells self.new }
+    {
+        let m = self.machine.get();
+        let behind = rows_behind(alloc, m, form);
+        drop(mem::replace(&mut self.ahead, RowStack::new(alloc, m.forward(), form)));
+        drop(mem::replace(&mut self.behind, behind));
+        self.quiet.clear();
+    }
+
     /// The hulls of cell `k`, whose rows are known.
     pub(crate) fn hulls_at<'b>(&'b self, k: u32, cells: &'b Boxed) -> CellHulls<'b>
         requires hulls { HasHulls self.now.machine k cells.now.present }
         requires known { AreKnown cells.now.present self.now }
         requires there { HasRows k cells.now.present self.now }
-        ensures { result ≡ at_cell self.now.machine cells.now.present k }
+        ensures { result ≡ at_cell self.now.machine cells.now.present k (ends_of self.now) }
     {
         let (first, last) = self.ends(cells);
         CellHulls {
@@ -260,8 +322,9 @@ impl<'a> BoxTables<'a> {
         requires last { last ≡ last_looked self.now.machine.window (length cells.now.present) }
         requires known { AreKnown cells.now.present self.now }
         requires there { HasRows k cells.now.present self.now }
-        ensures { MatchOption result (k ≡ last_looked self.now.machine.window (length cells.now.present))
+        ensures side { MatchOption result (k ≡ last_looked self.now.machine.window (length cells.now.present))
             (IsBackSide self.now.machine k cells.now.present) }
+        ensures form { IfSome result (λ side. form_of side.row.now ≡ self.now.form) }
     {
         if k == last {
             return None;
@@ -281,6 +344,7 @@ impl<'a> BoxTables<'a> {
         requires cells { count ≤ length (looked_at self.old.machine.window cells.now.present) }
         requires known { AreKnown cells.now.present self.old }
         ensures known { StillKnown cells.now.present self.old self.new }
+        ensures form { self.new.form ≡ self.old.form }
         ensures behind { self.new.behind ≡ self.old.behind }
         ensures enough { OnOk result (count ≤ length self.new.ahead) }
     {
@@ -301,6 +365,7 @@ impl<'a> BoxTables<'a> {
         requires split { self.old.machine.pair ≡ None → ⊥ }
         requires known { AreKnown cells.now.present self.old }
         ensures known { StillKnown cells.now.present self.old self.new }
+        ensures form { self.new.form ≡ self.old.form }
         ensures ahead { self.new.ahead ≡ self.old.ahead }
         ensures enough { OnOk result (count ≤ length self.new.behind) }
     {
@@ -317,14 +382,27 @@ impl<'a> BoxTables<'a> {
     }
 }
 
+/// The form of rows with both ends.
+fn whole_form(m: &Machine) -> Form
+    ensures { IsFormOf (forward_of m.now).wide result }
+{
+    if m.forward().wide() {
+        Form::Wide
+    } else {
+        Form::Narrow
+    }
+}
+
 /// A stack without rows, for the reverse automaton. A machine without one will have none.
-fn rows_behind(alloc: Global, m: &Machine) -> RowStack
+fn rows_behind(alloc: Global, m: &Machine, form: Form) -> RowStack
+    requires { IsFormOf (forward_of m.now).wide form }
+    ensures form { result.planned.form ≡ form }
     ensures planned { IsPlannedBack (pair_of m.now) result.planned }
     ensures none { result ≡ no_rows result.planned }
 {
     match m.reverse() {
-        Some(reverse) => RowStack::new(alloc, reverse),
-        None => RowStack::new(alloc, m.forward()),
+        Some(reverse) => RowStack::new(alloc, reverse, form),
+        None => RowStack::new(alloc, m.forward(), form),
     }
 }
 

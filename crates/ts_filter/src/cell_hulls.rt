@@ -4,22 +4,28 @@ ghost use Rattle.std.specs.Prelude.{◌≡◌, ◌↔◌, ◌≤◌, ℤ, [], �
 ghost use Rattle.std.specs.Result.{result_ok};
 ghost use Rattle.ts_base.specs.Windows.{looked_at};
 ghost use Rattle.ts_bound.specs.Blocks.{last_at, split_at};
-ghost use Rattle.ts_bound.specs.Looks.{place_in};
+ghost use Rattle.ts_bound.specs.Laws.{AreAutomata};
+ghost use Rattle.ts_bound.specs.Looks.{count_looked, place_in};
 ghost use Rattle.ts_bound.specs.TermSpans.{automata_of, term_span, value_span};
-ghost use Rattle.ts_filter.specs.Question.{Excludes};
+ghost use Rattle.ts_filter.specs.Question.{AsksEach, Excludes};
+ghost use Rattle.ts_filter.specs.Ends.{best_end};
+ghost use Rattle.ts_filter.specs.declared.question.Question.TheVariants.{Ranks};
 ghost use Rattle.ts_filter.specs.Boxes.{values_at};
-ghost use Rattle.ts_filter.specs.CellHulls.{AreMet, HasHulls, IsAheadRow, IsBackSide, at_cell};
+ghost use Rattle.ts_filter.specs.Alike.{IsServed};
+ghost use Rattle.ts_filter.specs.AnyRows.{form_of, form_sides};
+ghost use Rattle.ts_filter.specs.CellHulls.{AreMet, HasHulls, IsAheadRow, IsBackSide, Serves};
 ghost use Rattle.ts_filter.specs.SoFar.{IsSoFar, IsWholeSpan, WithParts};
 ghost use Rattle.ts_filter.specs.TermDrops.{IsFirstRefuting};
 ghost use Rattle.ts_glue.specs.Machines.{forward_of, pair_of, window_of};
 ghost use Rattle.ts_meet.specs.Settled.{Between};
 
 use crate::any_row::{AnyRow, asked_between, settled_between};
+use crate::excluded::best_end;
 use crate::question::Question;
 use crate::so_far::SoFar;
 use crate::term_requirements::TermRequirements;
 use std::marker::Model;
-use ts_base::Span;
+use ts_base::{Ext, Goal};
 use ts_bound::laws::machine_is_whole;
 use ts_bound::looked_count;
 use ts_domain::{Boxed, Domain};
@@ -51,13 +57,15 @@ impl<'a> Model for CellHulls<'a> {
     ghost use Rattle.std.specs.Coded.{codes};
     ghost use Rattle.ts_automaton.specs.Codes.{formula_code};
     ghost use Rattle.ts_bound.specs.TermSpans.{automata_of};
+    ghost use Rattle.ts_filter.specs.AnyRows.{form_of, form_sides};
     ghost use Rattle.ts_filter.specs.CellHulls.{AreHulls, AtCell, at_cell};
 
     ghost Value = { AtCell };
 
     ghost coded = { Prim.hlevel (codes, formula_code) };
 
-    ghost view = { λ h. at_cell (automata_of h.machine.now) h.cells.now.present h.cell };
+    ghost view = { λ h. at_cell (automata_of h.machine.now) h.cells.now.present h.cell
+        (form_sides (form_of h.row.now)) };
 
     ghost invariant = { λ h. AreHulls (automata_of h.machine.now) h.cells.now.present h.cell h.row.now
         h.back };
@@ -82,6 +90,7 @@ impl<'a> CellHulls<'a> {
     /// A value with which it shows that some number of the span at the cell does what is asked; none exactly where no
     /// number does. The value `likely` is asked about first, if it is one of the cell.
     pub(crate) fn showing(&self, asked: Question<'_>, likely: i64) -> Option<i64>
+        requires { Serves self.now asked }
         ensures { (result ≡ None)
             ↔ Excludes asked.entry (term_span self.now.machine self.now.cell self.now.cells) }
     {
@@ -93,6 +102,7 @@ impl<'a> CellHulls<'a> {
 
     /// Whether `v` is a value of the cell and some number of its span does what is asked.
     fn shows(&self, asked: Question<'_>, v: i64) -> bool
+        requires { Serves self.now asked }
         ensures { IsTrue result →
             Excludes asked.entry (term_span self.now.machine self.now.cell self.now.cells) → ⊥ }
     {
@@ -100,17 +110,24 @@ impl<'a> CellHulls<'a> {
     }
 
     /// The number of the first of these requirements that the span at the cell refutes.
-    pub(crate) fn first_refuted_by_all(&self, requirements: TermRequirements<'_>) -> Option<u32>
+    pub(crate) fn first_refuted_by_all(
+        &self,
+        asked: Question<'_>,
+        requirements: TermRequirements<'_>,
+    ) -> Option<u32>
+        requires serves { Serves self.now asked }
+        requires asked { AsksEach requirements asked }
         ensures { IsFirstRefuting requirements.entry.all.now requirements.entry.term
             (term_span self.now.machine self.now.cell self.now.cells) result }
     {
-        let known = self.with_all(Question::each_met(requirements)).ok()?;
+        let known = self.with_all(asked).ok()?;
         requirements.first_refuted(known.span)
     }
 
     /// The span at the cell, if no number of it does what is asked; otherwise a value with which it shows that one
     /// does. The span is the hull of the spans of the values, and the first with such a number settles the question.
     fn with_all<'b>(&self, asked: Question<'b>) -> Result<SoFar<'b>, i64>
+        requires { Serves self.now asked }
         ensures { IsWholeSpan asked.entry (term_span self.now.machine self.now.cell self.now.cells)
             (result_ok result) }
     {
@@ -128,7 +145,8 @@ impl<'a> CellHulls<'a> {
 
     /// Whether no number of the span does what is asked, on the box with the value `v` alone at the cell.
     pub(crate) fn value_excludes(&self, asked: Question<'_>, v: i64) -> bool
-        requires { Contains (values_at self.now.cell self.now.cells) v }
+        requires serves { Serves self.now asked }
+        requires value { Contains (values_at self.now.cell self.now.cells) v }
         ensures { IsTrue result ↔ Excludes asked.entry (value_span self.now.machine self.now.cell self.now.cells v) }
     {
         let place = self.values().place_of(v);
@@ -137,7 +155,8 @@ impl<'a> CellHulls<'a> {
 
     /// Whether no number of the span of the value `v` does what is asked, which is at place `i`, counted from 0.
     fn excludes_at(&self, asked: Question<'_>, i: u64, v: i64) -> bool
-        requires { slice_get (values_at self.now.cell self.now.cells) i ≡ Some v }
+        requires serves { Serves self.now asked }
+        requires value { slice_get (values_at self.now.cell self.now.cells) i ≡ Some v }
         ensures { IsTrue result ↔ Excludes asked.entry (value_span self.now.machine self.now.cell self.now.cells v) }
     {
         self.with_value(SoFar::none(asked), i, v).is_some()
@@ -147,26 +166,29 @@ impl<'a> CellHulls<'a> {
     /// pairs of states leave none refuted, there is none.
     pub(crate) fn first_refuted(
         &self,
+        asked: Question<'_>,
         requirements: TermRequirements<'_>,
         i: u64,
         v: i64,
     ) -> Option<u32>
-        requires { slice_get (values_at self.now.cell self.now.cells) i ≡ Some v }
+        requires serves { Serves self.now asked }
+        requires asked { AsksEach requirements asked }
+        requires value { slice_get (values_at self.now.cell self.now.cells) i ≡ Some v }
         ensures { IsFirstRefuting requirements.entry.all.now requirements.entry.term
             (value_span self.now.machine self.now.cell self.now.cells v) result }
     {
-        let asked = Question::each_met(requirements);
         let known = self.with_value(SoFar::none(asked), i, v)?;
         requirements.first_refuted(known.span)
     }
 
-    /// The span of the value `v` at place `i`.
-    pub(crate) fn span_at(&self, i: u64, v: i64) -> Span
-        requires { slice_get (values_at self.now.cell self.now.cells) i ≡ Some v }
-        ensures { result ≡ value_span self.now.machine self.now.cell self.now.cells v }
+    /// The best end of the span of the value `v` at place `i`.
+    pub(crate) fn best_end_at(&self, goal: Goal, i: u64, v: i64) -> Ext
+        requires serves { Serves self.now (Ranks goal) }
+        requires value { slice_get (values_at self.now.cell self.now.cells) i ≡ Some v }
+        ensures { result ≡ best_end goal (value_span self.now.machine self.now.cell self.now.cells v) }
     {
-        match self.with_value(SoFar::none(Question::Nothing), i, v) {
-            Some(known) => known.span,
+        match self.with_value(SoFar::none(Question::Ranks(goal)), i, v) {
+            Some(known) => best_end(goal, known.span),
             None => unreachable!(),
         }
     }
@@ -174,6 +196,7 @@ impl<'a> CellHulls<'a> {
     /// The place up to which, from the place `from` on, the spans of the values have what is asked, as pairs of states
     /// show whatever values are there. Of the places from there up to `to` nothing is known.
     pub(crate) fn settled_to(&self, asked: Question<'_>, from: u64, to: u64) -> u64
+        requires serves { Serves self.now asked }
         requires order { from ≤ to }
         requires inside { to ≤ length (values_at self.now.cell self.now.cells) }
         ensures from { from ≤ result }
@@ -198,6 +221,7 @@ impl<'a> CellHulls<'a> {
     /// The place up to which the spans of the values from the place `from` on have what is asked, as far as it pays to
     /// look: after a value that pairs of states don't settle, few are asked one by one at less cost.
     pub(crate) fn settled_further(&self, asked: Question<'_>, from: u64, to: u64) -> u64
+        requires serves { Serves self.now asked }
         requires order { from ≤ to }
         requires inside { to ≤ length (values_at self.now.cell self.now.cells) }
         ensures from { from ≤ result }
@@ -212,6 +236,7 @@ impl<'a> CellHulls<'a> {
 
     /// A span with that of the value `v` at place `i` added; none once a number does what is asked.
     fn with_value<'b>(&self, so_far: SoFar<'b>, i: u64, v: i64) -> Option<SoFar<'b>>
+        requires serves { Serves self.now so_far.asked }
         requires known { IsSoFar so_far }
         requires value { slice_get (values_at self.now.cell self.now.cells) i ≡ Some v }
         ensures { WithParts so_far.entry (value_span self.now.machine self.now.cell self.now.cells v ∷ []) result }
@@ -246,6 +271,9 @@ fn last_value<'a>(
     i: u64,
     v: i64,
 ) -> Option<SoFar<'a>>
+    requires serves { IsServed (form_sides (form_of row.now)) (forward_of m.now).mark
+        (count_looked (window_of m.now) (length cells.now.present)) so_far.asked }
+    requires whole { AreAutomata (automata_of m.now) }
     requires known { IsSoFar so_far }
     requires hulls { HasHulls (automata_of m.now) k cells.now.present }
     requires row { IsAheadRow (automata_of m.now) k cells.now.present row.now }
@@ -269,9 +297,12 @@ fn split_value<'a>(
     i: u64,
     v: i64,
 ) -> Option<SoFar<'a>>
+    requires serves { IsServed (form_sides (form_of row.now)) (forward_of m.now).mark
+        (count_looked (window_of m.now) (length cells.now.present)) so_far.asked }
     requires known { IsSoFar so_far }
     requires hulls { HasHulls (automata_of m.now) k cells.now.present }
     requires row { IsAheadRow (automata_of m.now) k cells.now.present row.now }
+    requires form { form_of back.row.now ≡ form_of row.now }
     requires back { IsBackSide (automata_of m.now) k cells.now.present back }
     requires value { slice_get (values_at k cells.now.present) i ≡ Some v }
     ensures { WithParts so_far.entry (split_at (forward_of m.now) (pair_of m.now)
@@ -304,6 +335,9 @@ fn met_to(
     from: u64,
     to: u64,
 ) -> u64
+    requires serves { IsServed (form_sides (form_of row.now)) (forward_of m.now).mark
+        (count_looked (window_of m.now) (length cells.now.present)) asked }
+    requires form { form_of back.row.now ≡ form_of row.now }
     requires hulls { HasHulls (automata_of m.now) k cells.now.present }
     requires row { IsAheadRow (automata_of m.now) k cells.now.present row.now }
     requires back { IsBackSide (automata_of m.now) k cells.now.present back }

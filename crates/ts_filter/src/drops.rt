@@ -6,6 +6,8 @@ ghost use Rattle.ts_bound.specs.TermSpans.{IsUsable, LooksIn, automata_of};
 ghost use Rattle.ts_domain.specs.Values.{IsDomain};
 ghost use Rattle.ts_filter.specs.Drops.{IsFirstDrop, IsFirstOf};
 ghost use Rattle.ts_filter.specs.Boxes.{HasCell, values_at};
+ghost use Rattle.ts_filter.specs.CellHulls.{Serves};
+ghost use Rattle.ts_filter.specs.Question.{AsksEach};
 ghost use Rattle.ts_filter.specs.KeptCells.{IsKeptIfKnown};
 ghost use Rattle.ts_filter.specs.KnownRows.{AreKnown, StillKnown};
 ghost use Rattle.ts_filter.specs.MachineSpans.{spans_of};
@@ -197,8 +199,9 @@ impl<'a> BoxTables<'a> {
         if first <= self.unusable(cells) + 1 && last == cells.cells() {
             return Ok(None);
         }
-        self.make_at(alloc, last, cells)?;
-        Ok(self.hulls_at(last, cells).first_refuted_by_all(own))
+        let asked = Question::each_met(own);
+        self.make_at(alloc, asked, last, cells)?;
+        Ok(self.hulls_at(last, cells).first_refuted_by_all(asked, own))
     }
 
     /// The cells at which drops are looked for: those after the first number, up to the second. They are all that may
@@ -237,8 +240,9 @@ impl<'a> BoxTables<'a> {
         if !self.looks_at(k) {
             return Ok(drop_outside(k, cells, outside));
         }
-        self.make_at(alloc, k, cells)?;
-        Ok(drop_in_cell(&self.hulls_at(k, cells), own))
+        let asked = Question::each_met(own);
+        self.make_at(alloc, asked, k, cells)?;
+        Ok(drop_in_cell(&self.hulls_at(k, cells), asked, own))
     }
 
     /// How many cells come before the first that may be used: all but the last where the machine can't be split.
@@ -258,8 +262,14 @@ impl<'a> BoxTables<'a> {
 
 /// The first of the drops at one cell by these requirements. Most values are passed over without being found: pairs of
 /// states settle that none of the requirements is refuted there.
-fn drop_in_cell(hulls: &CellHulls<'_>, own: TermRequirements<'_>) -> Option<Removal>
-    requires { IsUsable hulls.now.machine hulls.now.cell hulls.now.cells }
+fn drop_in_cell(
+    hulls: &CellHulls<'_>,
+    asked: Question<'_>,
+    own: TermRequirements<'_>,
+) -> Option<Removal>
+    requires usable { IsUsable hulls.now.machine hulls.now.cell hulls.now.cells }
+    requires serves { Serves hulls.now asked }
+    requires asked { AsksEach own asked }
     ensures { IsFirstOf (IsDropAt own.entry.all.now own.entry.term
         hulls.now.machine hulls.now.cells hulls.now.cell) result }
 {
@@ -268,11 +278,10 @@ fn drop_in_cell(hulls: &CellHulls<'_>, own: TermRequirements<'_>) -> Option<Remo
     if values.size() < 2 {
         return None;
     }
-    let asked = Question::each_met(own);
     let mut i = hulls.settled_to(asked, 0, values.size());
     while i < values.size() {
         let value = values.nth(i);
-        if let Some(require) = hulls.first_refuted(own, i, value) {
+        if let Some(require) = hulls.first_refuted(asked, own, i, value) {
             return Some(Removal {
                 cell,
                 value,

@@ -4,13 +4,16 @@ ghost use Rattle.std.specs.Prelude.{ℤ, Contains, IfOk};
 ghost use Rattle.ts_bound.specs.TermSpans.{LooksIn, automata_of};
 ghost use Rattle.ts_domain.specs.BoxSeries.{IsCell};
 ghost use Rattle.ts_filter.specs.Boxes.{values_at};
+ghost use Rattle.ts_filter.specs.CellHulls.{Serves};
 ghost use Rattle.ts_filter.specs.KeptValue.{IsKept, IsPreferred, end_in};
 ghost use Rattle.ts_filter.specs.KnownRows.{AreKnown, StillKnown};
+ghost use Rattle.ts_filter.specs.declared.question.Question.TheVariants.{Ranks};
 
 use crate::box_tables::BoxTables;
 use crate::cell_hulls::CellHulls;
-use crate::excluded::{best_end, is_better};
+use crate::excluded::is_better;
 use crate::held_machine::HeldMachine;
+use crate::question::Question;
 use std::alloc::Global;
 use ts_base::{Goal, Memory};
 use ts_domain::Boxed;
@@ -36,7 +39,7 @@ impl<'a> BoxTables<'a> {
         if self.is_plain() || !self.looks_at(k) {
             return Ok(cells.cell(k).least());
         }
-        self.make_at(alloc, k, cells)?;
+        self.make_at(alloc, Question::Ranks(goal), k, cells)?;
         Ok(preferred(&self.hulls_at(k, cells), goal))
     }
 }
@@ -60,16 +63,17 @@ pub fn kept_value(
 
 /// The value of the cell whose span has the best end, the least of several.
 fn preferred(hulls: &CellHulls<'_>, goal: Goal) -> i64
+    requires { Serves hulls.now (Ranks goal) }
     ensures there { Contains (values_at hulls.now.cell hulls.now.cells) result }
     ensures best { (u : ℤ) → Contains (values_at hulls.now.cell hulls.now.cells) u →
         IsPreferred goal (end_in hulls.now.machine goal hulls.now.cell hulls.now.cells) result u }
 {
     let values = hulls.values();
     let mut kept = values.least();
-    let mut best = best_end(goal, hulls.span_at(0, kept));
+    let mut best = hulls.best_end_at(goal, 0, kept);
     for i in 0..values.size() {
         let v = values.nth(i);
-        let end = best_end(goal, hulls.span_at(i, v));
+        let end = hulls.best_end_at(goal, i, v);
         if is_better(goal, end, best) {
             kept = v;
             best = end;

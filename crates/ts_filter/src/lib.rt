@@ -37,6 +37,7 @@ mod box_tables;
 mod cell_hulls;
 mod drops;
 mod enough;
+mod enough_form;
 mod excluded;
 mod first_cell;
 mod gone;

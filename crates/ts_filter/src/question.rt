@@ -1,9 +1,6 @@
 //! What is asked of the numbers of a span.
 
-ghost use Rattle.std.specs.Prelude.{◌↔◌};
-ghost use Rattle.ts_base.specs.declared.span.Span.{Span};
-ghost use Rattle.ts_filter.specs.Question.{Excludes};
-ghost use Rattle.ts_filter.specs.TermDrops.{RefutesSome};
+ghost use Rattle.ts_filter.specs.Question.{AsksEach};
 
 use crate::bar::Bar;
 use crate::enough::{enough_to_compare, enough_to_count};
@@ -15,20 +12,20 @@ use ts_model::Op;
 use ts_sweep::packed::Ends;
 
 /// What is asked of the numbers of a span: whether one compares so with a bound; whether for each requirement of a term
-/// one meets it; whether one counts for a bar; or what no number does.
+/// one meets it; whether one counts for a bar; or nothing but what the best number is for an objective.
 #[derive(Clone, Copy)]
 pub(crate) enum Question<'a> {
     Compares(Op, Ext),
     MeetsEach(TermRequirements<'a>),
     Counts(Goal, Bar),
-    Nothing,
+    Ranks(Goal),
 }
 
 impl<'a> Question<'a> {
     /// The question whether each of these requirements is met by some number: if there is only one of them, one
     /// comparison.
     pub(crate) fn each_met(requirements: TermRequirements<'a>) -> Question<'a>
-        ensures { (s : Span) → Excludes result s ↔ RefutesSome requirements.entry.all.now requirements.entry.term s }
+        ensures { AsksEach requirements.entry result }
     {
         match requirements.only() {
             Some(r) => Question::Compares(r.op, r.bound),
@@ -50,7 +47,7 @@ impl<'a> Asked for Question<'a> {
             Question::Compares(op, bound) => refutes(op, bound, span),
             Question::MeetsEach(requirements) => requirements.first_refuted(span).is_some(),
             Question::Counts(goal, bar) => cuts(goal, bar, span),
-            Question::Nothing => true,
+            Question::Ranks(_) => true,
         }
     }
 
@@ -59,7 +56,7 @@ impl<'a> Asked for Question<'a> {
             Question::Compares(op, bound) => enough_to_compare(op, bound),
             Question::MeetsEach(requirements) => requirements.enough(),
             Question::Counts(goal, bar) => enough_to_count(goal, bar),
-            Question::Nothing => None,
+            Question::Ranks(_) => None,
         }
     }
 }

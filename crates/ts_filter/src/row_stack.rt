@@ -1,7 +1,7 @@
 //! A stack of rows of hulls. Those that a change reaches aren't thrown away: they may turn out right again.
 
 ghost use Rattle.std.specs.Prelude.{◌≡◌, ◌<◌, ◌≤◌, ℤ, List, [], ◌∷◌, IfOk, IsTrue, OnErr, OnOk, get_or, length};
-ghost use Rattle.ts_filter.specs.AnyRows.{IsRowOf, columns, lanes_of};
+ghost use Rattle.ts_filter.specs.AnyRows.{IsFormOf, IsRowOf, columns, form_of, lanes_of};
 ghost use Rattle.ts_filter.specs.RowStacks.{
   HasStates,
   IsCut,
@@ -19,9 +19,8 @@ ghost use Rattle.ts_filter.specs.RowStacks.{
 ghost use Rattle.ts_row.specs.Plans.{IsPlanOf};
 ghost use Rattle.ts_row.specs.Rows.{IsRow};
 ghost use Rattle.ts_row.specs.Takings.{count_in};
-ghost use Rattle.ts_sweep.specs.Packed.{is_wide};
 
-use crate::any_row::{AnyRow, are_same};
+use crate::any_row::{AnyRow, Form, are_same};
 use crate::gone::Gone;
 use crate::planned::Planned;
 use crate::room::SMALL_ROW;
@@ -42,23 +41,23 @@ pub(crate) struct HullRow {
 
 impl HullRow {
     /// A row without hulls, with room for the values of a cell.
-    fn empty(alloc: Global, wide: bool, room: usize) -> HullRow
-        ensures { wide ≡ is_wide (lanes_of result.packed) }
+    fn empty(alloc: Global, form: Form, room: usize) -> HullRow
+        ensures { form_of result.packed ≡ form }
     {
         HullRow {
-            packed: AnyRow::empty(alloc, wide),
+            packed: AnyRow::empty(alloc, form),
             room,
         }
     }
 
-    /// The row, or an empty one where its memory doesn't suit so many values. It is one of an automaton of the width.
-    pub(crate) fn with_room(self, alloc: Global, wide: bool, count: usize) -> HullRow
-        ensures { wide ≡ is_wide (lanes_of result.packed) }
+    /// The row, or an empty one where its memory doesn't suit so many values of the form.
+    pub(crate) fn with_room(self, alloc: Global, form: Form, count: usize) -> HullRow
+        ensures { form_of result.packed ≡ form }
     {
-        if self.packed.is_wide() == wide && self.has_room(count) {
+        if self.packed.form() == form && self.has_room(count) {
             self
         } else {
-            HullRow::empty(alloc, wide, count.max(SMALL_ROW))
+            HullRow::empty(alloc, form, count.max(SMALL_ROW))
         }
     }
 
@@ -75,8 +74,9 @@ impl HullRow {
         a: &Automaton,
         values: Cell<'_>,
     ) -> Result<HullRow, Memory>
-        requires { a.now.wide ≡ is_wide (lanes_of self.packed) }
-        ensures { IfOk result (λ row. IsRowOf a.now [] values.entry.values.now row.packed) }
+        requires { IsFormOf a.now.wide (form_of self.packed) }
+        ensures form { IfOk result (λ row. form_of row.packed ≡ form_of self.packed) }
+        ensures row { IfOk result (λ row. IsRowOf a.now [] values.entry.values.now row.packed) }
     {
         let packed = self.packed.started(alloc, a, values)?;
         Ok(HullRow {
@@ -95,11 +95,13 @@ impl HullRow {
         before: &AnyRow,
         next_values: Cell<'_>,
     ) -> Result<HullRow, Memory>
-        requires width { a.now.wide ≡ is_wide (lanes_of self.packed) }
-        requires width_before { a.now.wide ≡ is_wide (lanes_of before.now) }
+        requires width { IsFormOf a.now.wide (form_of self.packed) }
+        requires form_before { form_of before.now ≡ form_of self.packed }
         requires plan { IsPlanOf a.now plan.now }
         requires row { IsRow (lanes_of before.now) (length a.now.states) (count_in values) (columns before.now) }
-        ensures { IfOk result (λ row. (cells : List (List ℤ)) → IsRowOf a.now cells values.entry.values.now before.now →
+        ensures form { IfOk result (λ row. form_of row.packed ≡ form_of self.packed) }
+        ensures row { IfOk result (λ row. (cells : List (List ℤ)) →
+            IsRowOf a.now cells values.entry.values.now before.now →
             IsRowOf a.now (values.entry.values.now ∷ cells) next_values.entry.values.now row.packed) }
     {
         let packed = self
@@ -114,7 +116,7 @@ impl HullRow {
 
 /// Rows of an automaton, of which the first are known. Those above were known of an earlier box. From place `from` on
 /// each is still the next row after the one below: where one is right, all above it are. `spare` and `lists` have
-/// memory for the next row and the values that it is made of. All rows have the states and the width of the automaton,
+/// memory for the next row and the values that it is made of. All rows have the states of the automaton and one form,
 /// which are kept here alone.
 #[derive(Drop)]
 pub(crate) struct RowStack {
@@ -143,19 +145,28 @@ impl Model for RowStack {
 }
 
 impl RowStack {
-    /// No row of the automaton.
-    pub(crate) fn new(alloc: Global, a: &Automaton) -> RowStack
+    /// No row of the automaton, in a form that suits its width.
+    pub(crate) fn new(alloc: Global, a: &Automaton, form: Form) -> RowStack
+        requires { IsFormOf a.now.wide form }
+        ensures form { result.planned.form ≡ form }
         ensures planned { IsPlanned a.now result.planned }
         ensures none { result ≡ no_rows result.planned }
     {
         RowStack {
-            planned: Planned::of(a),
+            planned: Planned::of(a, form),
             rows: Vec::new(alloc),
             known: 0,
             from: 0,
             spare: None,
             lists: None,
         }
+    }
+
+    /// The form of the rows.
+    pub(crate) fn form(&self) -> Form
+        ensures { result ≡ self.now.planned.form }
+    {
+        self.planned.form
     }
 
     /// The plan of the automaton.
@@ -250,7 +261,7 @@ impl RowStack {
     {
         match self.spare.take() {
             Some(row) => row,
-            None => HullRow::empty(alloc, self.planned.wide, 0),
+            None => HullRow::empty(alloc, self.planned.form, 0),
         }
     }
 

@@ -1,10 +1,9 @@
 //! The rows of hulls of a box, made one after the other in the order in which an automaton reads the cells.
 
 ghost use Rattle.std.specs.Prelude.{◌≡◌, ◌<◌, ◌≤◌, [], IfOk, OnOk, get_or, length};
-ghost use Rattle.ts_bound.specs.HullTables.{forward_rows};
 ghost use Rattle.ts_filter.specs.KnownRows.{AreRows};
 ghost use Rattle.ts_filter.specs.Reading.{IsBefore, cells_read};
-ghost use Rattle.ts_filter.specs.RowStacks.{HasStates, hulls_in};
+ghost use Rattle.ts_filter.specs.RowStacks.{HasStates, hulls_in, rows_seen, seen_by};
 
 use crate::reading::Reading;
 use crate::row_stack::{HullRow, RowStack};
@@ -24,6 +23,7 @@ pub(crate) fn make_rows(
     requires cells { count ≤ length (cells_read reading) }
     requires known { AreRows a.now (cells_read reading) rows.old }
     ensures known { AreRows a.now (cells_read reading.entry) rows.new }
+    ensures planned { rows.new.planned ≡ rows.old.planned }
     ensures enough { OnOk result (count ≤ length rows.new.known) }
 {
     if rows.len() < count {
@@ -47,6 +47,7 @@ fn make_missing(
     requires known { AreRows a.now (cells_read reading) rows.old }
     requires more { length rows.old.known < count }
     ensures known { AreRows a.now (cells_read reading.entry) rows.new }
+    ensures planned { rows.new.planned ≡ rows.old.planned }
     ensures enough { OnOk result (count ≤ length rows.new.known) }
 {
     lists.begin(reading, rows.len())?;
@@ -69,6 +70,7 @@ fn make_row(
     requires known { AreRows a.now (cells_read reading) rows.old }
     requires before { IsBefore (cells_read reading) (length rows.old.known) lists.old.before }
     ensures known { AreRows a.now (cells_read reading.entry) rows.new }
+    ensures planned { rows.new.planned ≡ rows.old.planned }
     ensures more { OnOk result (length rows.old.known < length rows.new.known) }
     ensures before { OnOk result (IsBefore (cells_read reading.entry) (length rows.new.known) lists.new.before) }
 {
@@ -99,11 +101,11 @@ fn next_row(
     ensures here { IfOk result (λ row. lists.new.here ≡ get_or (cells_read reading.entry) (length rows.now.known) []) }
     ensures states { IfOk result (λ row. HasStates rows.now.planned row.packed) }
     ensures hulls { IfOk result (λ row. hulls_in rows.now.planned.states row.packed
-        ≡ get_or (forward_rows a.now (cells_read reading.entry)) (length rows.now.known) []) }
+        ≡ get_or (rows_seen (seen_by a.now rows.now.planned) (cells_read reading.entry)) (length rows.now.known) []) }
 {
     let i = rows.len();
     let values = reading.at(i);
-    let spare = spare.with_room(alloc, a.wide(), values.size() as usize);
+    let spare = spare.with_room(alloc, rows.form(), values.size() as usize);
     lists.here.reset(values)?;
     if i == 0 {
         let first = spare.started(alloc, a, lists.here.lend())?;

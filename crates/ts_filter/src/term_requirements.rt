@@ -7,6 +7,7 @@ ghost use Rattle.ts_base.specs.declared.span.Span.{Span};
 ghost use Rattle.ts_filter.specs.Excluded.{Refutes};
 ghost use Rattle.ts_filter.specs.TermDrops.{AreAmong, IsFirstRefuting, NoneFrom, RefutesSome};
 ghost use Rattle.ts_meet.specs.Asked.{AreEnough};
+ghost use Rattle.ts_model.specs.declared.model.Require.{Require};
 
 use crate::enough::{any_ends, enough_to_meet};
 use crate::excluded::refutes;
@@ -49,8 +50,10 @@ impl<'a> TermRequirements<'a> {
 
     /// The only one, where there are no others.
     pub(crate) fn only(self) -> Option<&'a Require>
-        ensures { MatchOption result (Unit {0}) (λ r. (s : Span) →
+        ensures refuted { MatchOption result (Unit {0}) (λ r. (s : Span) →
             Refutes r.now.op r.now.bound s ↔ RefutesSome self.entry.all.now self.entry.term s) }
+        ensures alone { MatchOption result (Unit {0}) (λ r. (other : Require) →
+            Contains self.entry.all.now other → other.term ≡ self.entry.term → other ≡ r.now) }
     {
         if self.first + 1 < self.end {
             return None;

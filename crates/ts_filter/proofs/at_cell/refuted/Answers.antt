@@ -1,13 +1,15 @@
 use Rattle.std.proofs.Common.{◌↔◌, IsTrue, subst}
 use Rattle.std.specs.Prelude.{IfOk}
-use Rattle.ts_bound.specs.TermSpans.{term_span}
+use Rattle.ts_bound.specs.TermSpans.{Automata, term_span}
 use Rattle.ts_filter.specs.Excluded.{Refutes}
-use Rattle.ts_filter.specs.KnownRows.{KnownRows}
 use Rattle.ts_filter.proofs.at_cell.refuted.Goals as goal
+
+pub excluded_at-requires-clause-known : goal.excluded_at-requires-clause-known
+excluded_at-requires-clause-known c = c.new.ensures.known _
 
 pub returns : goal.returns
 returns c =
     subst
-    (λ (t : KnownRows). IfOk c.excluded_at.result
-    (λ told. IsTrue told ↔ Refutes c.args.r.now.op c.args.r.now.bound (term_span t.machine c.args.p c.args.cells.now.present)))
-    c.new.ensures.value c.excluded_at.ensures.told
+    (λ (a : Automata). IfOk c.excluded_at.result
+    (λ told. IsTrue told ↔ Refutes c.args.r.now.op c.args.r.now.bound (term_span a c.args.p c.args.cells.now.present)))
+    c.new.ensures.machine c.excluded_at.ensures.told

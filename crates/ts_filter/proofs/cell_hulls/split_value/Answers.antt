@@ -6,11 +6,13 @@ use Rattle.ts_bound.specs.Looks.{place_in}
 use Rattle.ts_bound.specs.TermSpans.{automata_of}
 use Rattle.ts_bound.proofs.SpanEnds.{pair_is}
 use Rattle.ts_glue.specs.Machines.{forward_of, pair_of, window_of}
+use Rattle.ts_filter.specs.Alike.{IsServed}
+use Rattle.ts_filter.specs.AnyRows.{form_of, form_sides}
 use Rattle.ts_filter.specs.Boxes.{values_at}
 use Rattle.ts_filter.specs.CellHulls.{seen_after, seen_before}
 use Rattle.ts_filter.proofs.CellLaws.{cell_value}
-use Rattle.ts_filter.proofs.Looked.{cell_there, counted}
-use Rattle.ts_filter.proofs.MeetLaws.{lanes_there, left_place, none_told, one_width, right_place, some_told}
+use Rattle.ts_filter.proofs.Looked.{cell_there, counted, counted_as}
+use Rattle.ts_filter.proofs.MeetLaws.{as_wide, left_place, none_told, right_place, some_told, width_there}
 use Rattle.ts_filter.proofs.cell_hulls.split_value.Goals as goal
 
 pub asked_between-requires : goal.asked_between-requires
@@ -24,11 +26,11 @@ asked_between-requires c =
     c.requires.back in
     let value = subst IsCellValue (sym (to_z-of_z w64 c.args.v c.ranges.v))
     (cell_value b c.args.k c.args.i c.args.v c.cells.ensures.domains there.0 there.1 c.requires.value) in
-    let lanes = lanes_there (forward_of m) before behind values c.args.row.now c.args.back c.requires.row (pair_of m)
-    (pair_is m) (one_width m) c.requires.back in
     record {
-      width = lanes;
-      form = c.requires.known.form;
+      form = c.requires.form;
+      width = width_there (forward_of m) before behind values c.args.row.now c.args.back c.requires.row (pair_of m) (pair_is m) (as_wide m)
+          c.requires.back;
+      whole = c.requires.known.form;
       known = c.requires.known.excluded;
       left = left;
       right = right;
@@ -42,11 +44,12 @@ returns-in-Some c =
     let count : c.looked_count-n.result ≡ length cells =
     counted m b c.window.result c.cells.result c.looked_count-n.result c.requires.hulls.looks c.window.ensures c.cells.ensures.count
     c.looked_count-n.ensures in
-    let lanes = lanes_there (forward_of m) (seen_before (automata_of m) c.args.k b) (seen_after (automata_of m) c.args.k b) (values_at c.args.k b)
-    c.args.row.now c.args.back c.requires.row (pair_of m) (pair_is m) (one_width m) c.requires.back in
-    some_told (forward_of m) place cells (values_at c.args.k b) c.args.i c.args.v c.args.row.now c.args.back lanes c.requires.row c.requires.value c.args.so_far
-    c.requires.known c.looked_count-n.result count _ (to_z-of_z w64 c.args.v c.ranges.v) (pair_of m) c.in-Some.span (pair_is m) c.requires.back
-    c.in-Some.ensures
+    let served = subst (λ z. IsServed (form_sides (form_of c.args.row.now)) (forward_of m).mark z c.args.so_far.asked)
+    (counted_as m b c.window.result c.cells.result c.looked_count-n.result c.window.ensures c.cells.ensures.count c.looked_count-n.ensures)
+    c.requires.serves in
+    some_told c.args.so_far (forward_of m) place cells (values_at c.args.k b) c.args.i c.args.v c.args.row.now c.args.back c.requires.form c.requires.row
+    c.requires.value c.looked_count-n.result count served _ (to_z-of_z w64 c.args.v c.ranges.v) (pair_of m) c.in-Some.span (pair_is m) (as_wide m)
+    c.requires.back c.in-Some.ensures
 
 pub returns-in-None : goal.returns-in-None
 returns-in-None c =
@@ -55,8 +58,9 @@ returns-in-None c =
     let count : c.looked_count-n.result ≡ length cells =
     counted m b c.window.result c.cells.result c.looked_count-n.result c.requires.hulls.looks c.window.ensures c.cells.ensures.count
     c.looked_count-n.ensures in
-    let lanes = lanes_there (forward_of m) (seen_before (automata_of m) c.args.k b) (seen_after (automata_of m) c.args.k b) (values_at c.args.k b)
-    c.args.row.now c.args.back c.requires.row (pair_of m) (pair_is m) (one_width m) c.requires.back in
-    none_told (forward_of m) place cells (values_at c.args.k b) c.args.i c.args.v c.args.row.now c.args.back lanes c.requires.row c.requires.value c.args.so_far
-    c.requires.known c.looked_count-n.result count _ (to_z-of_z w64 c.args.v c.ranges.v) (pair_of m) (pair_is m) c.requires.back
+    let served = subst (λ z. IsServed (form_sides (form_of c.args.row.now)) (forward_of m).mark z c.args.so_far.asked)
+    (counted_as m b c.window.result c.cells.result c.looked_count-n.result c.window.ensures c.cells.ensures.count c.looked_count-n.ensures)
+    c.requires.serves in
+    none_told c.args.so_far (forward_of m) place cells (values_at c.args.k b) c.args.i c.args.v c.args.row.now c.args.back c.requires.form c.requires.row
+    c.requires.value c.looked_count-n.result count served _ (to_z-of_z w64 c.args.v c.ranges.v) (pair_of m) (pair_is m) (as_wide m) c.requires.back
     c.in-None.ensures

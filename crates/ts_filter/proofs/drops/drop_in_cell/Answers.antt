@@ -16,7 +16,7 @@ loop-i-init c =
     let long = ap length c.values-values.ensures.values in let to = c.settled_to-i.ensures.to in let size = c.size-2.ensures.size in
     let within : c.settled_to-i.result ≤ length all = omega (arith, long, to, size) in (
       within,
-      left_met own.all.now own.term t.machine t.cells t.cell c.each_met-asked.result c.each_met-asked.ensures 0 c.settled_to-i.result (omega arith) within
+      left_met own.all.now own.term t.machine t.cells t.cell t.ends c.args.asked c.requires.asked.excludes 0 c.settled_to-i.result (omega arith) within
           c.settled_to-i.ensures.met
           (all_left own.all.now own.term t.machine t.cells t.cell (subst IsRising c.values-values.ensures.values c.size-2.ensures.domain.rising)),
     )
@@ -32,7 +32,7 @@ returns-in-Some c =
     (Some (record { cell = k; value = to_z w64 (of_z w64 c.nth-value.result); require = c.in-Some.require })))
     (sym c.cell-cell.ensures)
     (drop_found_as c.args.own.all.now c.args.own.term t.machine t.cells t.cell (drop c.loop-i.i all) (drop (c.loop-i.i + 1) all) c.nth-value.result _
-    c.in-Some.require (to_z-of_z w64 c.nth-value.result fits) c.loop-i.invariant.1 left c.requires many
+    c.in-Some.require (to_z-of_z w64 c.nth-value.result fits) c.loop-i.invariant.1 left c.requires.usable many
     c.in-Some.ensures)
 
 pub loop-i-preserved : goal.loop-i-preserved
@@ -46,7 +46,7 @@ loop-i-preserved c =
     let to = c.settled_further-i.ensures.to in let size = c.size-in-loop-i-2.ensures.size in
     let within : c.settled_further-i.result ≤ length all = omega (arith, long, to, size) in (
       within,
-      left_met own.all.now own.term t.machine t.cells t.cell c.each_met-asked.result c.each_met-asked.ensures (c.loop-i.i + 1)
+      left_met own.all.now own.term t.machine t.cells t.cell t.ends c.args.asked c.requires.asked.excludes (c.loop-i.i + 1)
           c.settled_further-i.result c.settled_further-i.ensures.from within c.settled_further-i.ensures.met rest,
     )
 

@@ -1,15 +1,17 @@
 use Rattle.std.proofs.Common.{IfOk, subst}
-use Rattle.ts_bound.specs.TermSpans.{automata_of, value_span}
+use Rattle.ts_bound.specs.TermSpans.{Automata, automata_of, value_span}
 use Rattle.ts_filter.specs.Drops.{IsFirstOf}
-use Rattle.ts_filter.specs.KnownRows.{KnownRows}
 use Rattle.ts_filter.specs.TermDrops.{IsDropUpTo}
 use Rattle.ts_filter.proofs.Refuting.{none_of_term}
 use Rattle.ts_filter.proofs.drops.drop_of_term.Goals as goal
 
+pub first_drop-requires-clause-known : goal.first_drop-requires-clause-known
+first_drop-requires-clause-known c = c.new-tables.ensures.known _
+
 pub returns-in-Some : goal.returns-in-Some
 returns-in-Some c =
     let rs = c.args.requirements.now in let b = c.args.cells.now.present in let a = c.new-tables.result.machine in
-    subst (λ (t : KnownRows). IfOk c.first_drop.result (IsFirstOf (IsDropUpTo rs c.args.term t.machine b c.args.last))) c.new-tables.ensures.value
+    subst (λ (z : Automata). IfOk c.first_drop.result (IsFirstOf (IsDropUpTo rs c.args.term z b c.args.last))) c.new-tables.ensures.machine
     (subst (λ z. IfOk c.first_drop.result (IsFirstOf (IsDropUpTo rs z a b c.args.last))) c.in-Some.ensures.1
     (subst (λ z. IfOk c.first_drop.result (IsFirstOf (IsDropUpTo z c.in-Some.own.term a b c.args.last))) c.in-Some.ensures.0 c.first_drop.ensures.found))
 

@@ -3,7 +3,6 @@ use Rattle.std.proofs.Common.{w64, rules, sym, ap, ◌∙◌, subst, ℤ, length
 use Rattle.std.proofs.lemmas.Int.{to_z-of_z}
 use Rattle.std.proofs.lemmas.List.{drop_all}
 use Rattle.ts_filter.specs.Boxes.{values_at}
-use Rattle.ts_filter.specs.Ends.{best_end}
 use Rattle.ts_filter.specs.KeptValue.{end_in}
 use Rattle.ts_filter.proofs.CellLaws.{left_is}
 use Rattle.ts_filter.proofs.KeptLaws.{IsSoFar, kept_changes, kept_stays, kept_of_all, told_so}
@@ -15,7 +14,7 @@ loop-i-preserved c =
     let fits : SFits w64 c.nth-v.result = search rules in
     let t = c.args.hulls.now in let end = end_in t.machine c.args.goal t.cell t.cells in let all = values_at t.cell t.cells in
     let same = to_z-of_z w64 c.nth-v.result fits in
-    let ends = c.best_end-end.ensures ∙ ap (best_end c.args.goal) c.span_at-in-loop-i.ensures in
+    let ends = c.best_end_at-end.ensures in
     let long = ap length c.values-values.ensures.values in
     let rest = drop (c.loop-i.i + 1) all in
     let left = left_is all c.loop-i.i c.nth-v.result (omega (arith, long, c.loop-i-test.true, c.size-i-end.ensures.size))

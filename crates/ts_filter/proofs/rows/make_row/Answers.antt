@@ -1,5 +1,4 @@
-use Rattle.std.proofs.Common.{◌≡◌, ◌<◌, length, [], get_or, sym, subst}
-use Rattle.ts_bound.specs.HullTables.{forward_rows}
+use Rattle.std.proofs.Common.{◌<◌, length, sym, subst}
 use Rattle.ts_filter.specs.KnownRows.{AreRows}
 use Rattle.ts_filter.specs.Reading.{cells_read}
 use Rattle.ts_filter.specs.RowStacks.{Stack, hulls_in}

@@ -1,11 +1,14 @@
 use Rattle.std.proofs.Common.{◌≡◌, ◌∙◌, suc, ap, sym, subst, length, [], get_or, arith, ◌-◌}
 use Rattle.ts_row.specs.Plans.{IsPlanOf}
+use Rattle.ts_sweep.specs.Sides.{has_wide}
+use Rattle.ts_filter.specs.AnyRows.{form_lanes}
 use Rattle.ts_filter.specs.Reading.{cells_read}
 use Rattle.ts_filter.proofs.PackedStacks.{first_made, next_made, packed_before}
 use Rattle.ts_filter.proofs.rows.next_row.Goals as goal
 
 pub started-requires : goal.started-requires
-started-requires c = sym c.wide.ensures ∙ c.with_room-spare.ensures
+started-requires c =
+    c.requires.known.planned.form ∙ ap (λ f. has_wide (form_lanes f)) (sym (c.with_room-spare.ensures ∙ c.form.ensures))
 
 pub returns-then-i-eq0-clause-states : goal.returns-then-i-eq0-clause-states
 returns-then-i-eq0-clause-states c =
@@ -13,7 +16,7 @@ returns-then-i-eq0-clause-states c =
     (first_made a cells rows.known rows.planned c.lend.result.values.now c.in_ok-first.first.packed c.requires.known.planned
     (sym c.len-i.ensures ∙ c.if-i-eq0.true) c.requires.more
     (c.lend.ensures ∙ c.in_ok-reset.ensures.values ∙ c.at-values.ensures ∙ ap (λ j. get_or cells j []) c.len-i.ensures)
-    c.in_ok-first.ensures).0
+    (c.in_ok-first.ensures.form ∙ c.with_room-spare.ensures ∙ c.form.ensures) c.in_ok-first.ensures.row).0
 
 pub returns-then-i-eq0-clause-hulls : goal.returns-then-i-eq0-clause-hulls
 returns-then-i-eq0-clause-hulls c =
@@ -21,7 +24,7 @@ returns-then-i-eq0-clause-hulls c =
     (first_made a cells rows.known rows.planned c.lend.result.values.now c.in_ok-first.first.packed c.requires.known.planned
     (sym c.len-i.ensures ∙ c.if-i-eq0.true) c.requires.more
     (c.lend.ensures ∙ c.in_ok-reset.ensures.values ∙ c.at-values.ensures ∙ ap (λ j. get_or cells j []) c.len-i.ensures)
-    c.in_ok-first.ensures).1
+    (c.in_ok-first.ensures.form ∙ c.with_room-spare.ensures ∙ c.form.ensures) c.in_ok-first.ensures.row).1
 
 pub stepped-requires : goal.stepped-requires
 stepped-requires c =
@@ -33,8 +36,8 @@ stepped-requires c =
     c.requires.known.known at c.requires.more c.row.ensures.states c.row.ensures.hulls
     (c.lend-2.ensures ∙ here) in
     record {
-      width = sym c.wide.ensures ∙ c.with_room-spare.ensures;
-      width_before = before.width;
+      width = c.requires.known.planned.form ∙ ap (λ f. has_wide (form_lanes f)) (sym (c.with_room-spare.ensures ∙ c.form.ensures));
+      form_before = c.row.ensures.states.form ∙ sym (c.with_room-spare.ensures ∙ c.form.ensures);
       plan = subst (IsPlanOf a) (sym c.plan.ensures) c.requires.known.planned.plan;
       row = before.packed.is_row;
     }
@@ -48,7 +51,8 @@ returns-clause-states c =
     (next_made a cells rows.known rows.planned i c.lend-2.result.values.now c.row.result.now c.requires.known.planned c.requires.known.known at
     c.requires.more c.row.ensures.states c.row.ensures.hulls (c.lend-2.ensures ∙ here)
     c.lend-3.result.values.now c.in_ok-row.row.packed
-    (c.lend-3.ensures ∙ c.in_ok-reset.ensures.values ∙ c.at-values.ensures ∙ ap (λ j. get_or cells j []) count) c.in_ok-row.ensures).0
+    (c.lend-3.ensures ∙ c.in_ok-reset.ensures.values ∙ c.at-values.ensures ∙ ap (λ j. get_or cells j []) count)
+    (c.in_ok-row.ensures.form ∙ c.with_room-spare.ensures ∙ c.form.ensures) c.in_ok-row.ensures.row).0
 
 pub returns-clause-hulls : goal.returns-clause-hulls
 returns-clause-hulls c =
@@ -59,4 +63,5 @@ returns-clause-hulls c =
     (next_made a cells rows.known rows.planned i c.lend-2.result.values.now c.row.result.now c.requires.known.planned c.requires.known.known at
     c.requires.more c.row.ensures.states c.row.ensures.hulls (c.lend-2.ensures ∙ here)
     c.lend-3.result.values.now c.in_ok-row.row.packed
-    (c.lend-3.ensures ∙ c.in_ok-reset.ensures.values ∙ c.at-values.ensures ∙ ap (λ j. get_or cells j []) count) c.in_ok-row.ensures).1
+    (c.lend-3.ensures ∙ c.in_ok-reset.ensures.values ∙ c.at-values.ensures ∙ ap (λ j. get_or cells j []) count)
+    (c.in_ok-row.ensures.form ∙ c.with_room-spare.ensures ∙ c.form.ensures) c.in_ok-row.ensures.row).1

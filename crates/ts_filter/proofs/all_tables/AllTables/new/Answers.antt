@@ -11,7 +11,7 @@ loop-machine-preserved c =
     let at = c.loop-machine in let all = c.args.machines.now in let i = at.machine-index in let m = c.machine-item.result in record {
       machines = ap machines_of c.in_ok-push.ensures.items ∙ map-append (λ (t : KnownRows). t.machine) at.each.items (c.new.result ∷ [])
           ∙ ap (λ l. l ++ c.new.result.machine ∷ []) at.invariant.machines
-          ∙ ap (λ (a : Automata). map automata_of (take i all) ++ a ∷ []) (ap (λ (t : KnownRows). t.machine) c.new.ensures.value ∙ ap automata_of c.machine-item.is)
+          ∙ ap (λ (a : Automata). map automata_of (take i all) ++ a ∷ []) (c.new.ensures.machine ∙ ap automata_of c.machine-item.is)
           ∙ sym (map_more automata_of all i m c.loop-machine-test.true);
       known = λ b. subst (AreRowsOfEach b) (sym c.in_ok-push.ensures.items)
           (All-push (AreKnown b) at.each.items c.new.result (at.invariant.known b) (c.new.ensures.known _));

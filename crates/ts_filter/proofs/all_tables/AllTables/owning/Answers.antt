@@ -25,7 +25,7 @@ loop-machine-preserved c =
     let left = into_iter_items at.machine-iterator in
     let steps : left ≡ c.in-Some.machine ∷ into_iter_items c.next.new.self = c.in-Some.ensures.steps.0 in record {
       machines = one_more (machines_of at.each.items) (machines_of c.push.new.self.items) _ left (into_iter_items c.next.new.self) c.in-Some.machine
-          c.new.result.machine steps (ap (λ (t : KnownRows). t.machine) c.new.ensures.value)
+          c.new.result.machine steps c.new.ensures.machine
           (ap machines_of c.in_ok-push.ensures.items ∙ map-append (λ (t : KnownRows). t.machine) at.each.items (c.new.result ∷ []))
           at.invariant.machines;
       known = λ b. subst (AreRowsOfEach b) (sym c.in_ok-push.ensures.items)

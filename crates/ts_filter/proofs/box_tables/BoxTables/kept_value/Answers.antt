@@ -3,8 +3,7 @@ use Rattle.std.specs.Prelude.{Contains}
 use Rattle.std.proofs.Common.{◌≡◌, ◌⊎◌, ◌≤ℤ◌, None, false, inl, inr, w64, rules, sym, ap, ◌∙◌, subst, ℤ}
 use Rattle.std.proofs.lemmas.Int.{to_z-of_z}
 use Rattle.ts_bound.specs.Looks.{is_looked}
-use Rattle.ts_bound.specs.TermSpans.{Automata}
-use Rattle.ts_filter.specs.CellHulls.{at_cell}
+use Rattle.ts_filter.specs.CellHulls.{AtCell}
 use Rattle.ts_filter.specs.KeptValue.{IsKept}
 use Rattle.ts_filter.proofs.KeptLaws.{kept_by, kept_least}
 use Rattle.ts_filter.proofs.SoundLaws.{clash}
@@ -17,7 +16,8 @@ returns-clause-kept c =
     let a = c.args.self.now.machine in let b = c.args.cells.now.present in
     subst (λ (v : ℤ). IsKept a c.args.goal c.args.k b v) (sym (to_z-of_z w64 c.preferred.result fits))
     (kept_by c.hulls_at.result a b c.args.goal c.args.k c.preferred.result c.requires.looks
-    (c.hulls_at.ensures ∙ ap (λ (x : Automata). at_cell x b c.args.k) c.in_ok-make_at.ensures.known.machine)
+    (ap (λ (t : AtCell). t.machine) c.hulls_at.ensures ∙ c.in_ok-make_at.ensures.known.machine)
+    (ap (λ (t : AtCell). t.cells) c.hulls_at.ensures) (ap (λ (t : AtCell). t.cell) c.hulls_at.ensures)
     (λ e. clash c.is_plain.result (c.is_plain.ensures.1 e) c.if-is_plain.false) c.requires.cell c.preferred.ensures.there c.preferred.ensures.best)
 
 pub returns-then-is_plain-clause-kept : goal.returns-then-is_plain-clause-kept

@@ -9,5 +9,5 @@ pub returns : goal.returns
 returns c =
     let t = c.args.self.now in
     subst (λ (v : ℤ). (c.is_some.result ≡ true) ↔ Excludes c.args.asked (value_span t.machine t.cell t.cells v)) (to_z-of_z w64 c.args.v c.ranges.v)
-    (alone_told c.none.result c.args.asked _ c.with_value.result c.is_some.result c.none.ensures.asked c.none.ensures.span c.is_some.ensures
+    (alone_told c.none.result c.args.asked _ c.none.ensures.asked c.none.ensures.span c.with_value.result c.is_some.result c.is_some.ensures
     c.with_value.ensures)

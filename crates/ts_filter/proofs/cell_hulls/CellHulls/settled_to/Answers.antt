@@ -5,11 +5,14 @@ use Rattle.ts_bound.specs.TermSpans.{automata_of, value_span}
 use Rattle.ts_bound.proofs.SpanEnds.{pair_is, split_value_ends}
 use Rattle.ts_glue.specs.Machines.{pair_of, window_of}
 use Rattle.ts_filter.specs.Boxes.{values_at}
-use Rattle.ts_filter.specs.CellHulls.{AtCell, HasHulls, IsBackSide}
+use Rattle.ts_filter.specs.CellHulls.{AtCell, HasHulls, IsBackSide, Serves}
 use Rattle.ts_filter.specs.Question.{Excludes}
 use Rattle.ts_filter.proofs.Looked.{value_inside}
 use Rattle.ts_filter.proofs.MeetLaws.{side_there}
 use Rattle.ts_filter.proofs.cell_hulls.CellHulls.settled_to.Goals as goal
+
+pub met_to-requires-clause-serves : goal.met_to-requires-clause-serves
+met_to-requires-clause-serves c = subst (λ (t : AtCell). Serves t c.args.asked) (sym c.self.view_is) c.requires.serves
 
 pub returns-in-Some-clause-met : goal.returns-in-Some-clause-met
 returns-in-Some-clause-met c i first last v is none =

@@ -1,20 +1,23 @@
 use mir.Val.{SFits}
-use Rattle.std.proofs.Common.{ap, ◌∙◌, sym, length, slice_get, w64, rules, arith}
+use Rattle.std.proofs.Common.{ap, ◌∙◌, sym, subst, length, slice_get, w64, rules, arith}
 use Rattle.std.proofs.lemmas.Int.{to_z-of_z}
 use Rattle.ts_bound.specs.TermSpans.{term_span, value_span}
 use Rattle.ts_filter.specs.Boxes.{values_at}
-use Rattle.ts_filter.proofs.CellLaws.{span_begun}
+use Rattle.ts_filter.specs.CellHulls.{Serves}
 use Rattle.ts_filter.proofs.Looked.{span_inside}
-use Rattle.ts_filter.proofs.SoFarLaws.{value_more, value_stops, values_done}
+use Rattle.ts_filter.proofs.SoFarLaws.{none_begun, value_more, value_stops, values_done}
 use Rattle.ts_filter.proofs.cell_hulls.CellHulls.with_all.Goals as goal
 
 pub loop-i-init : goal.loop-i-init
 loop-i-init c =
     let t = c.args.self.now in (
       c.none-known.ensures.asked,
-      span_begun (value_span t.machine t.cell t.cells) (values_at t.cell t.cells) c.none-known.result.span c.none-known.ensures.span,
+      none_begun c.args.asked (value_span t.machine t.cell t.cells) (values_at t.cell t.cells) c.none-known.result.span c.none-known.ensures.span,
       c.none-known.ensures.known,
     )
+
+pub with_value-requires-clause-serves : goal.with_value-requires-clause-serves
+with_value-requires-clause-serves c = subst (Serves c.args.self.now) (sym c.loop-i.invariant.0) c.requires
 
 pub loop-i-preserved : goal.loop-i-preserved
 loop-i-preserved c =

@@ -7,11 +7,17 @@ use Rattle.ts_bound.specs.Looks.{last_looked, place_in}
 use Rattle.ts_bound.specs.TermSpans.{automata_of, value_span}
 use Rattle.ts_bound.proofs.SpanEnds.{pair_is, split_value_ends, last_value_ends}
 use Rattle.ts_glue.specs.Machines.{forward_of, pair_of, window_of}
-use Rattle.ts_filter.specs.CellHulls.{AtCell, HasHulls, IsBackSide}
+use Rattle.ts_filter.specs.CellHulls.{AtCell, HasHulls, IsBackSide, Serves}
 use Rattle.ts_filter.specs.SoFar.{WithParts}
 use Rattle.ts_filter.proofs.Looked.{place_last, value_inside}
 use Rattle.ts_filter.proofs.MeetLaws.{side_there}
 use Rattle.ts_filter.proofs.cell_hulls.CellHulls.with_value.Goals as goal
+
+pub split_value-requires-clause-serves : goal.split_value-requires-clause-serves
+split_value-requires-clause-serves c = subst (λ (t : AtCell). Serves t c.args.so_far.asked) (sym c.self.view_is) c.requires.serves
+
+pub last_value-requires-clause-serves : goal.last_value-requires-clause-serves
+last_value-requires-clause-serves c = subst (λ (t : AtCell). Serves t c.args.so_far.asked) (sym c.self.view_is) c.requires.serves
 
 pub returns-in-Some : goal.returns-in-Some
 returns-in-Some c =
