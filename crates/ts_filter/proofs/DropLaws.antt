@@ -268,3 +268,8 @@ pub refuted_of : (own : TermRequirements) (rs : List Require) (term : ℕ) (a : 
     IsRefutedOutside own.all.now own.term a b outside → IsRefutedOutside rs term a b outside
 refuted_of own rs term a b outside is_all is_term h =
     subst (λ z. IsRefutedOutside rs z a b outside) is_term (subst (λ z. IsRefutedOutside z own.term a b outside) is_all h)
+
+-- a cell with one value has none
+pub no_drop_of_one : (rs : List Require) (term : ℕ) (a : Automata) (b : Box) (k : ℕ) → length (values_at k b) ≡ 1 → IsFirstOf (IsDropAt rs term a b k) None
+no_drop_of_one rs term a b k one = λ t h.
+    let many : 2 ≤ length (values_at k b) = subst (λ c. 2 ≤ length (values_at c b)) h.0 h.1.many in omega (arith, many, one)

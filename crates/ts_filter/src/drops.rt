@@ -220,7 +220,8 @@ impl<'a> BoxTables<'a> {
         }
     }
 
-    /// The first of the drops at cell `k`, where `outside` is refuted if that is outside the window.
+    /// The first of the drops at cell `k`, where `outside` is refuted if that is outside the window. No row is made for
+    /// a cell that has one value alone.
     fn drop_at(
         &mut self,
         alloc: Global,
@@ -239,6 +240,9 @@ impl<'a> BoxTables<'a> {
     {
         if !self.looks_at(k) {
             return Ok(drop_outside(k, cells, outside));
+        }
+        if cells.cell(k).is_single() {
+            return Ok(None);
         }
         let asked = Question::each_met(own);
         self.make_at(alloc, asked, k, cells)?;
