@@ -141,7 +141,8 @@ module _ (q : Problem) (posed : IsPosed q) (w : Witnesses) (b : Box) (part : IsP
     -- it is as before but for what it knows
 
     module _ (new : Shown) (w' : Witnesses) (change : w'.each.items ≡ set w.each.items i new) (marks : w'.kept ≡ w.kept) (ends : w'.ends ≡ w.ends)
-        (machine : new.machine ≡ s.machine) (cells : new.spared.cells ≡ s.spared.cells) (is_held : IsHeld r new) (series : series_of new.witness ≡ series_of s.witness) (met : new.met ≡ s.met)
+        (machine : new.machine ≡ s.machine) (cells : new.spared.cells ≡ s.spared.cells) (is_held : IsHeld r new)
+        (series : series_of new.witness ≡ series_of s.witness) (met : new.met ≡ s.met)
       where
         in_box : InBox (series_of new.witness) (looked_at (window_of s.machine.now) b)
         in_box = subst (λ x. InBox x (looked_at (window_of s.machine.now) b)) (sym series) (shown.inside i s r there require)
@@ -212,7 +213,8 @@ all_spared q b at n h few v j r is on drop =
 -- the machine of a witness of a requirement on the term is the term's, and looks at cells of the model
 
 pub on_term : (q : Problem) (w : Witnesses) → AreHeld q w → (term i : ℕ) (s : Shown) (r : Require) → slice_get w.each.items i ≡ Some s →
-    slice_get q.model.now.requirements.items i ≡ Some r → r.term ≡ term → slice_get (automata_in (model_parts q.model.now)) term ≡ Some (automata_of s.machine.now)
+    slice_get q.model.now.requirements.items i ≡ Some r → r.term ≡ term → slice_get (automata_in (model_parts q.model.now)) term
+    ≡ Some (automata_of s.machine.now)
 on_term q w held term i s r there is on = ap (slice_get (automata_in (model_parts q.model.now))) (sym on) ∙ held.machine i s r there is
 
 pub looks_on : (q : Problem) → IsPosed q → (w : Witnesses) → AreHeld q w → (term i : ℕ) (s : Shown) (r : Require) → slice_get w.each.items i ≡ Some s →
@@ -270,7 +272,8 @@ module _ (q : Problem) (posed : IsPosed q) (w w' : Witnesses) (b : Box) (same : 
     ends = ends;
   }
 
-  pub mark_alive : (term : ℕ) → w'.ends ≡ w.ends → w'.kept ≡ with_known with_alive term w.kept → IsPart b (search_of q).model.cells → AreMet q w term → AreMarked q w b →
+  pub mark_alive : (term : ℕ) → w'.ends ≡ w.ends → w'.kept ≡ with_known with_alive term w.kept → IsPart b (search_of q).model.cells → AreMet q w term →
+      AreMarked q w b →
       AreMarked q w' b
   mark_alive term ends change part met h = record {
     shown = shown_with_marks q w w' same (ap (λ z. length z.items) ends) b

@@ -1,7 +1,7 @@
 -- What the calls tell of a problem that may be asked.
 use Rattle.std.proofs.Common.{◌≡◌, ◌↔◌, ℕ, ◌-◌, ◌<◌, ◌≤◌, ℤ, Bool, false, List, [], ◌∷◌, length, get_or, Option, Some, None, slice_get, refl, sym, ◌∙◌, ap, subst, arith}
 use Rattle.std.proofs.lemmas.List.{length-map}
-use Rattle.std.proofs.lemmas.Option.{slice_get-get_or}
+use Rattle.std.proofs.lemmas.Option.{none-some, slice_get-get_or, slice_get_within}
 use Rattle.std.specs.Prelude.{IsTrue, IfSome}
 use Rattle.std.specs.List.{AllByRecursion}
 use Rattle.ts_base.specs.Windows.{LooksInside}
@@ -25,7 +25,7 @@ use Rattle.ts_filter.proofs.SoundLaws.{each_at}
 use Rattle.ts_search.specs.Dive.{kept_for, kept_value}
 use Rattle.ts_search.specs.Drops.{least, next_drop}
 use Rattle.ts_search.specs.LineOf.{Contest, is_cut_at, cut_by, inner, last, is_refuted_at}
-use Rattle.ts_search.specs.Posed.{AreTablesOf, HasObjective, IsPosed}
+use Rattle.ts_search.specs.Posed.{AreTablesOf, HasObjective, IsIdle, IsPosed}
 use Rattle.ts_search.specs.Views.{contest_of, search_of}
 use Rattle.ts_search.specs.declared.contest.Contest.{Contest as GivenContest}
 use Rattle.ts_search.specs.declared.problem.Problem.{Problem}
@@ -44,6 +44,13 @@ told_of (d ∷ tables) term Is Goal lt h f =
 pub told_in : (q : Problem) (tables : List Automata) (term : ℕ) (Is : Automata → Type 0) (Goal : Type 0) → AreTablesOf q tables → term < length tables →
     OfTerm tables term Is → ((a : Automata) → slice_get (automata_in (model_parts q.model.now)) term ≡ Some a → Is a → Goal) → Goal
 told_in q tables term Is Goal t lt h f = told_of tables term Is Goal lt h (λ a there is. f a (ap (λ l. slice_get l term) (sym t) ∙ there) is)
+
+-- where there is a requirement, or an objective, something is asked
+pub busy : (q : Problem) (j : ℕ) → 1 ≤ j → j ≤ length q.model.now.requirements.items → IsIdle q → ⊥
+busy q j from to idle = let none = ap length idle.0 in omega (arith, from, to, none)
+
+pub aimed : (q : GivenContest) → HasObjective q → IsIdle q.problem → ⊥
+aimed q objective idle = none-some q.objective (sym idle.1 ∙ objective)
 
 module _ (q : Problem) (posed : IsPosed q) where
   -- the machines, one a term
@@ -115,6 +122,12 @@ module _ (q : Problem) (posed : IsPosed q) where
         found ≡ next_drop (search_of q).model (search_of q).spans b
     next_drop_told found h =
         drop_is (search_of q).model (search_of q).spans b i.box found h
+
+    -- without a requirement there is none
+    pub never_dropped : length q.model.now.requirements.items ≡ 0 → None ≡ next_drop (search_of q).model (search_of q).spans b
+    never_dropped none =
+        next_drop_told None (λ t d. let lt = slice_get_within q.model.now.requirements.items (t.require - 1) d.refuted.require d.refuted.is.1 in
+        omega (arith, none, lt))
 
 module _ (q : GivenContest) (posed : IsPosed q.problem) (objective : HasObjective q) where
   -- the objective's machine

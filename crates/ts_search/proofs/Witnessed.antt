@@ -363,7 +363,8 @@ module _ (q : Problem) (posed : IsPosed q) (w : Witnesses) (b : Box) (part : IsP
         let count = box_length (series_of new.witness) (looked_at (window_of s.machine.now) b) inside ∙ sym bring_count ∙ held.count i s r there require in
         record {
           few = omega (arith, same, few);
-          machine = each_after q w w' i new r (λ r s. slice_get (automata_in (model_parts q.model.now)) r.term ≡ Some (automata_of s.machine.now)) change require
+          machine =
+              each_after q w w' i new r (λ r s. slice_get (automata_in (model_parts q.model.now)) r.term ≡ Some (automata_of s.machine.now)) change require
               held.machine (held.machine i s r there require ∙ ap (λ z. Some (automata_of z.now)) (sym machine));
           each = each_after q w w' i new r IsHeld change require held.each is_held;
           count = each_after q w w' i new r (λ r s. length (series_of s.witness) ≡ count_looked (window_of s.machine.now) (last (search_of q))) change require

@@ -1,5 +1,5 @@
 -- A problem that may be asked.
-use Rattle.std.specs.Prelude.{◌≡◌, ◌≤◌, List, Some, length}
+use Rattle.std.specs.Prelude.{◌≡◌, ◌≤◌, List, [], None, Some, length}
 use Rattle.ts_base.specs.Limits.{most_requirements, most_terms}
 use Rattle.ts_bound.specs.TermSpans.{Automata}
 use Rattle.ts_filter.specs.Boxes.{Box, IsPart}
@@ -29,12 +29,16 @@ pub record MayBring (q : Problem) (machines : List Automata) (b : Box) : Type 0 
   pub part : IsPart b (model_parts q.model.now).cells
   pub tables : AreTablesOf q machines
 
--- the tables may be asked of a box: they might be brought to it, and have been
+-- nothing is asked of tables: the model has neither a requirement nor an objective
+abbrev pub IsIdle : Problem → Type 0
+IsIdle q = (q.model.now.requirements.items ≡ []) × (q.model.now.objective ≡ None)
+
+-- the tables may be asked of a box: they might be brought to it, and have been where anything is asked
 pub record MayAsk (q : Problem) (t : Tables) (b : Box) : Type 0 where
   pub posed : IsPosed q
   pub part : IsPart b (model_parts q.model.now).cells
   pub tables : AreTablesOf q t.machines
-  pub on : t.cells ≡ b
+  pub on : (IsIdle q → ⊥) → t.cells ≡ b
 
 -- the objective of a contest is the model's
 abbrev pub HasObjective : Contest → Type 0

@@ -71,8 +71,7 @@ fn settle(
     problem.bring_tables(alloc, tables, cells)?;
     witnesses.bring(problem, cells);
     while refuted_requirement(alloc, problem, tables, witnesses, cells)?.is_none() {
-        witnesses.mark(problem, cells);
-        match problem.next_drop(alloc, tables, cells, &witnesses.kept)? {
+        match problem.next_drop(alloc, tables, witnesses, cells)? {
             Some(removal) => cells.remove(removal.cell, removal.value)?,
             None => return Ok(true),
         }

@@ -25,8 +25,8 @@ use ts_frontier::{Halving, halving_from};
 /// A leap ends before a cell with more values.
 const MOST_VALUES: u64 = 256;
 
-/// How many lines, that of the box and those below it, are known to be splits. It goes down `reach` splits, or as far as
-/// these take away no value that might be dropped, and asks there; then half as far, and so on.
+/// How many lines, that of the box and those below it, are known to be splits. It goes down `reach` splits, or as far
+/// as these take away no value that might be dropped, and asks there; then half as far, and so on.
 pub(crate) fn leap(
     alloc: Global,
     seeking: &Seeking<'_>,

@@ -163,8 +163,7 @@ fn branch(
     ensures line { IfOk result
         (λ l. l ≡ branch_line (search_of problem.now) cells.now.present halving.cell halving.at) }
 {
-    witnesses.mark(problem, cells);
-    match problem.next_drop(alloc, tables, cells, &witnesses.kept)? {
+    match problem.next_drop(alloc, tables, witnesses, cells)? {
         Some(removal) => Ok(TreeLine::Remove {
             k: removal.cell,
             v: removal.value,

@@ -124,8 +124,8 @@ impl<'a> Witnesses<'a> {
         true
     }
 
-    /// Whether the requirement at place `i`, counted from 0, drops no value of the cell, whose domain has these ends, or
-    /// is on another term.
+    /// Whether the requirement at place `i`, counted from 0, drops no value of the cell, whose domain has these ends,
+    /// or is on another term.
     fn spares_one(
         &mut self,
         problem: &Problem<'_>,

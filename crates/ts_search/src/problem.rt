@@ -1,15 +1,14 @@
 //! A model, and what its requirements exclude on a box.
 
-ghost use Rattle.std.specs.Prelude.{◌≡◌, ◌≤◌, Contains, IfOk, OnOk};
+ghost use Rattle.std.specs.Prelude.{◌≡◌, ◌≤◌, Contains, IfOk, IsTrue, OnOk};
 ghost use Rattle.ts_base.specs.Limits.{most_requirements};
 ghost use Rattle.ts_compile.specs.Programs.{IsProgramOf};
 ghost use Rattle.ts_domain.specs.BoxSeries.{IsCell, cell_of};
 ghost use Rattle.ts_filter.specs.Boxes.{only};
-ghost use Rattle.ts_filter.specs.KeptCells.{AreKept};
 ghost use Rattle.ts_model.specs.Views.{model_parts};
 ghost use Rattle.ts_search.specs.Drops.{least, next_drop};
 ghost use Rattle.ts_search.specs.LineOf.{inner, last, is_refuted_at, requirements};
-ghost use Rattle.ts_search.specs.Posed.{IsPosed, MayAsk, MayBring};
+ghost use Rattle.ts_search.specs.Posed.{IsIdle, IsPosed, MayAsk, MayBring};
 ghost use Rattle.ts_search.specs.Shown.{AreShown};
 ghost use Rattle.ts_search.specs.Views.{search_of};
 ghost use Rattle.ts_spans.specs.Machines.{automata_in};
@@ -19,7 +18,7 @@ use std::alloc::Global;
 use ts_base::Memory;
 use ts_compile::Program;
 use ts_domain::Boxed;
-use ts_filter::{AllTables, KeptCells, Removal};
+use ts_filter::{AllTables, Removal};
 use ts_model::Model;
 
 /// A model whose boxes are searched.
@@ -46,7 +45,14 @@ impl<'a> Problem<'a> {
         self.model.requirements.len() as u32
     }
 
-    /// Brings the tables to a box.
+    /// Whether nothing is asked of tables: the model has neither a requirement nor an objective.
+    fn is_idle(&self) -> bool
+        ensures { IsTrue result → IsIdle self.now }
+    {
+        self.model.requirements.is_empty() && self.model.objective.is_none()
+    }
+
+    /// Brings the tables to a box, unless nothing is asked of them.
     pub(crate) fn bring_tables(
         &self,
         alloc: Global,
@@ -57,6 +63,9 @@ impl<'a> Problem<'a> {
         ensures machines { tables.new.machines ≡ tables.old.machines }
         ensures asked { OnOk result (MayAsk self.now tables.new cells.now.present) }
     {
+        if self.is_idle() {
+            return Ok(());
+        }
         tables.bring(alloc, cells)
     }
 
@@ -135,22 +144,27 @@ impl<'a> Problem<'a> {
         tables.refuted_value(alloc, require, k, v, cells)
     }
 
-    /// The drop that comes next. Nothing is asked of tables where it is marked as needless.
+    /// The drop that comes next; without a requirement there is none. Nothing is asked of tables where the witnesses
+    /// show that no value is dropped.
     pub(crate) fn next_drop(
         &self,
         alloc: Global,
         tables: &mut AllTables<'_>,
+        witnesses: &mut Witnesses<'_>,
         cells: &Boxed,
-        kept: &KeptCells,
     ) -> Result<Option<Removal>, Memory>
         requires asked { MayAsk self.now tables.old cells.now.present }
-        requires kept { AreKept self.now.model.now.requirements.items (search_of self.now).spans cells.now.present
-            kept.now }
+        requires shown { AreShown self.now witnesses.old cells.now.present }
         ensures same { tables.new ≡ tables.old }
+        ensures shown { AreShown self.now witnesses.new cells.now.present }
         ensures found { IfOk result (λ found.
             found ≡ next_drop (search_of self.now).model (search_of self.now).spans cells.now.present) }
     {
-        tables.next_drop(alloc, &self.model.requirements, cells, kept)
+        if self.requirements() == 0 {
+            return Ok(None);
+        }
+        witnesses.mark(self, cells);
+        tables.next_drop(alloc, &self.model.requirements, cells, &witnesses.kept)
     }
 }
 

@@ -121,8 +121,8 @@ impl<'a> Shown<'a> {
         }
     }
 
-    /// Changes one cell after the other to a value that brings the series nearer to what the requirement asks, the first
-    /// cells that have a choice, up to `most`.
+    /// Changes one cell after the other to a value that brings the series nearer to what the requirement asks, the
+    /// first cells that have a choice, up to `most`.
     fn climb(&mut self, r: &Require, cells: &Boxed, most: u32)
         requires held { IsHeld r.now self.old }
         requires looks { LooksIn (automata_of self.old.machine.now) cells.now.present }
@@ -238,8 +238,8 @@ impl<'a> Shown<'a> {
         self.met = false;
     }
 
-    /// Whether the requirement, as far as the series shows, drops no value from `low` to `high` of the cell at place `k`
-    /// of those that are looked at, counted from 1: with each of these values there the series meets it.
+    /// Whether the requirement, as far as the series shows, drops no value from `low` to `high` of the cell at place
+    /// `k` of those that are looked at, counted from 1: with each of these values there the series meets it.
     pub(crate) fn spares(&mut self, r: &Require, k: u32, low: i64, high: i64) -> bool
         requires split { IsSome (pair_of self.old.machine.now) }
         requires held { IsHeld r.now self.old }

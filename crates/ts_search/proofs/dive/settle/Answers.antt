@@ -11,19 +11,19 @@ use Rattle.ts_search.proofs.DiveSteps.{one_more, refuted_some, removal_cell, rem
 use Rattle.ts_search.proofs.dive.settle.Goals as goal
 
 -- a drop leaves a part of the model's box
-pub bring_tables-requires-in-loop-witnesses : goal.bring_tables-requires-in-loop-witnesses
-bring_tables-requires-in-loop-witnesses c =
+pub bring_tables-requires-in-loop-alloc : goal.bring_tables-requires-in-loop-alloc
+bring_tables-requires-in-loop-alloc c =
     let s = search_of c.args.problem.now in
-    let b = c.loop-witnesses.cells.present in
+    let b = c.loop-alloc.cells.present in
     let r : Removal = c.in-Some.removal in
     let next : next_drop s.model s.spans b ≡ Some r = sym c.in_ok-removal.ensures.found ∙ c.in-Some.is in
     let after : c.remove.new.self.present ≡ without r.cell r.value b =
     ap (λ z. z.present) c.in_ok-remove-in-Some.ensures.ok ∙ ap (λ v. without r.cell v b) (to_z-of_z w64 r.value (search rules)) in
     record {
       asked = record {
-        posed = c.loop-witnesses.invariant.asked.posed;
-        part = subst (λ z. IsPart z s.model.cells) (sym after) (removal_part s.model s.spans s.model.cells b r c.loop-witnesses.invariant.asked.part next);
-        tables = ap (λ z. z.machines) (c.next_drop.ensures.same ∙ c.refuted_requirement.ensures.same) ∙ c.loop-witnesses.invariant.asked.tables;
+        posed = c.loop-alloc.invariant.asked.posed;
+        part = subst (λ z. IsPart z s.model.cells) (sym after) (removal_part s.model s.spans s.model.cells b r c.loop-alloc.invariant.asked.part next);
+        tables = ap (λ z. z.machines) (c.next_drop.ensures.same ∙ c.refuted_requirement.ensures.same) ∙ c.loop-alloc.invariant.asked.tables;
       };
     }
 
@@ -31,7 +31,7 @@ bring_tables-requires-in-loop-witnesses c =
 pub remove-requires-clause-cell : goal.remove-requires-clause-cell
 remove-requires-clause-cell c =
     let s = search_of c.args.problem.now in
-    removal_cell s.model s.spans c.loop-witnesses.cells.present
+    removal_cell s.model s.spans c.loop-alloc.cells.present
     c.in-Some.removal
     (sym c.in_ok-removal.ensures.found ∙ c.in-Some.is)
 
@@ -39,49 +39,50 @@ pub remove-requires-clause-stays : goal.remove-requires-clause-stays
 remove-requires-clause-stays c =
     let s = search_of c.args.problem.now in
     let r : Removal = c.in-Some.removal in
-    λ none. removal_stays s.model s.spans c.loop-witnesses.cells.present r c.loop-witnesses.invariant.asked.part.box
+    λ none. removal_stays s.model s.spans c.loop-alloc.cells.present r c.loop-alloc.invariant.asked.part.box
     (sym c.in_ok-removal.ensures.found ∙ c.in-Some.is)
-    (ap (λ v. values_without v (values_at r.cell c.loop-witnesses.cells.present)) (sym (to_z-of_z w64 r.value (search rules))) ∙ none)
+    (ap (λ v. values_without v (values_at r.cell c.loop-alloc.cells.present)) (sym (to_z-of_z w64 r.value (search rules))) ∙ none)
 
-pub loop-witnesses-preserved : goal.loop-witnesses-preserved
-loop-witnesses-preserved c =
+pub loop-alloc-preserved : goal.loop-alloc-preserved
+loop-alloc-preserved c =
     let s = search_of c.args.problem.now in
-    let b = c.loop-witnesses.cells.present in
+    let b = c.loop-alloc.cells.present in
     let r : Removal = c.in-Some.removal in
     let next : next_drop s.model s.spans b ≡ Some r = sym c.in_ok-removal.ensures.found ∙ c.in-Some.is in
     let after : c.remove.new.self.present ≡ without r.cell r.value b =
     ap (λ z. z.present) c.in_ok-remove-in-Some.ensures.ok ∙ ap (λ v. without r.cell v b) (to_z-of_z w64 r.value (search rules)) in
     record {
-      shown = c.bring-in-loop-witnesses.ensures;
-      machines = c.bring_tables-in-loop-witnesses.ensures.machines ∙ ap (λ z. z.machines) (c.next_drop.ensures.same ∙ c.refuted_requirement.ensures.same)
-          ∙ c.loop-witnesses.invariant.machines;
+      shown = c.bring-in-loop-alloc.ensures;
+      machines = c.bring_tables-in-loop-alloc.ensures.machines ∙ ap (λ z. z.machines) (c.next_drop.ensures.same ∙ c.refuted_requirement.ensures.same)
+          ∙ c.loop-alloc.invariant.machines;
       asked = c.in_ok-bring_tables-2.ensures.asked;
-      same = ap (after_drops s.model s.spans) after ∙ one_more s.model s.spans b r c.loop-witnesses.invariant.asked.part.box next ∙ c.loop-witnesses.invariant.same;
+      same = ap (after_drops s.model s.spans) after ∙ one_more s.model s.spans b r c.loop-alloc.invariant.asked.part.box next
+          ∙ c.loop-alloc.invariant.same;
     }
 
-pub loop-witnesses-smaller : goal.loop-witnesses-smaller
-loop-witnesses-smaller c =
+pub loop-alloc-smaller : goal.loop-alloc-smaller
+loop-alloc-smaller c =
     let s = search_of c.args.problem.now in
-    let b = c.loop-witnesses.cells.present in
+    let b = c.loop-alloc.cells.present in
     let r : Removal = c.in-Some.removal in
     let after : c.remove.new.self.present ≡ without r.cell r.value b =
     ap (λ z. z.present) c.in_ok-remove-in-Some.ensures.ok ∙ ap (λ v. without r.cell v b) (to_z-of_z w64 r.value (search rules)) in
     subst (λ z. total_of z < total_of b) (sym after)
-    (removal_less s.model s.spans b r c.loop-witnesses.invariant.asked.part.box (sym c.in_ok-removal.ensures.found ∙ c.in-Some.is))
+    (removal_less s.model s.spans b r c.loop-alloc.invariant.asked.part.box (sym c.in_ok-removal.ensures.found ∙ c.in-Some.is))
 
 -- no drop is possible any more
 pub returns-in-None-clause-settled : goal.returns-in-None-clause-settled
 returns-in-None-clause-settled c = record {
-  part = c.loop-witnesses.invariant.asked.part;
-  same = c.loop-witnesses.invariant.same;
+  part = c.loop-alloc.invariant.asked.part;
+  same = c.loop-alloc.invariant.same;
   settled = sym c.in_ok-removal.ensures.found ∙ c.in-None.is;
 }
 
 -- a requirement is refuted at the last cell
 pub returns-clause-settled : goal.returns-clause-settled
 returns-clause-settled c = record {
-  part = c.loop-witnesses.invariant.asked.part;
-  same = c.loop-witnesses.invariant.same;
-  settled = refuted_some (search_of c.args.problem.now) c.loop-witnesses.cells.present c.in_ok-refuted_requirement.field-0
+  part = c.loop-alloc.invariant.asked.part;
+  same = c.loop-alloc.invariant.same;
+  settled = refuted_some (search_of c.args.problem.now) c.loop-alloc.cells.present c.in_ok-refuted_requirement.field-0
       c.in_ok-refuted_requirement.ensures.found c.is_none.result c.is_none.ensures c.if-is_none.false;
 }

@@ -7,8 +7,8 @@ use Rattle.ts_search.specs.Views.{search_of}
 use Rattle.ts_search.proofs.dive.settle.Given as goal
 
 -- the drops that are left are those of the first box
-abbrev pub invariant-loop-witnesses : goal.invariant-loop-witnesses
-invariant-loop-witnesses l = record {
+abbrev pub invariant-loop-alloc : goal.invariant-loop-alloc
+invariant-loop-alloc l = record {
   machines : l.tables.machines ≡ l.fn.tables.machines;
   shown : AreShown l.problem l.witnesses l.cells.present;
   asked : MayAsk l.problem l.tables l.cells.present;
@@ -16,5 +16,5 @@ invariant-loop-witnesses l = record {
       ≡ after_drops (search_of l.problem).model (search_of l.problem).spans l.fn.cells.present;
 }
 
-abbrev pub decreases-loop-witnesses : goal.decreases-loop-witnesses
-decreases-loop-witnesses l = total_of l.cells.present
+abbrev pub decreases-loop-alloc : goal.decreases-loop-alloc
+decreases-loop-alloc l = total_of l.cells.present

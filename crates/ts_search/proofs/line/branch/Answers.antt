@@ -5,9 +5,6 @@ use Rattle.ts_search.specs.Views.{search_of}
 use Rattle.ts_search.proofs.CodeLines.{branch_drop, branch_split}
 use Rattle.ts_search.proofs.line.branch.Goals as goal
 
-pub next_drop-requires-clause-kept : goal.next_drop-requires-clause-kept
-next_drop-requires-clause-kept c = c.mark.ensures.marks
-
 pub returns-in-Some-clause-line : goal.returns-in-Some-clause-line
 returns-in-Some-clause-line c =
     branch_drop (search_of c.args.problem.now) c.args.cells.now.present c.in_ok-removal.field-0 c.in_ok-removal.ensures.found c.in-Some.removal _

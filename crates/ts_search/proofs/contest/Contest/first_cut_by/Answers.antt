@@ -6,8 +6,11 @@ use Rattle.ts_filter.specs.OfTerm.{OfTerm}
 use Rattle.ts_search.specs.Drops.{least}
 use Rattle.ts_search.specs.LineOf.{is_cut_at, inner}
 use Rattle.ts_search.specs.Views.{contest_of, search_of}
-use Rattle.ts_search.proofs.Posed.{first_cut_told, looks_of, objective_long, told_in}
+use Rattle.ts_search.proofs.Posed.{aimed, first_cut_told, looks_of, objective_long, told_in}
 use Rattle.ts_search.proofs.contest.Contest.first_cut_by.Goals as goal
+
+pub first_cut-requires-clause-on : goal.first_cut-requires-clause-on
+first_cut-requires-clause-on c = c.requires.asked.on (aimed c.args.self.now c.requires.objective)
 
 pub first_cut-requires-clause-there : goal.first_cut-requires-clause-there
 first_cut-requires-clause-there c =

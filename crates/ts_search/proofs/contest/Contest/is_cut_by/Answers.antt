@@ -6,8 +6,11 @@ use Rattle.ts_filter.specs.Excluded.{Cuts}
 use Rattle.ts_filter.specs.OfTerm.{OfTerm}
 use Rattle.ts_search.specs.LineOf.{is_cut_at, last}
 use Rattle.ts_search.specs.Views.{contest_of, search_of}
-use Rattle.ts_search.proofs.Posed.{cut_told, looks_of, objective_long, part_size, some_cells, told_in}
+use Rattle.ts_search.proofs.Posed.{aimed, cut_told, looks_of, objective_long, part_size, some_cells, told_in}
 use Rattle.ts_search.proofs.contest.Contest.is_cut_by.Goals as goal
+
+pub cut_at_end-requires-clause-on : goal.cut_at_end-requires-clause-on
+cut_at_end-requires-clause-on c = c.requires.asked.on (aimed c.args.self.now c.requires.objective)
 
 pub cut_at_end-requires-clause-there : goal.cut_at_end-requires-clause-there
 cut_at_end-requires-clause-there c =
@@ -27,7 +30,8 @@ cut_at_end-requires-clause-looks c =
 pub returns-clause-told : goal.returns-clause-told
 returns-clause-told c =
     let q = c.args.self.now in let b = c.args.cells.now.present in
-    IfOk-weaker c.cut_at_end.result (λ told. OfTerm c.args.tables.now.machines q.objective (λ a. IsTrue told ↔ Cuts q.goal c.args.bar (term_span a (length b) b)))
+    IfOk-weaker c.cut_at_end.result (λ told. OfTerm c.args.tables.now.machines q.objective
+    (λ a. IsTrue told ↔ Cuts q.goal c.args.bar (term_span a (length b) b)))
     (λ told. told ≡ is_cut_at (contest_of q) (last (search_of q.problem)) b c.args.bar)
     (λ told g. told_in q.problem c.args.tables.now.machines q.objective (λ a. IsTrue told ↔ Cuts q.goal c.args.bar (term_span a (length b) b))
     (told ≡ is_cut_at (contest_of q) (last (search_of q.problem)) b c.args.bar) c.requires.asked.tables

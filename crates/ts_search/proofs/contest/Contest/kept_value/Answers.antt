@@ -4,8 +4,11 @@ use Rattle.ts_filter.specs.KeptValue.{IsKept}
 use Rattle.ts_filter.specs.OfTerm.{OfTerm}
 use Rattle.ts_search.specs.Dive.{kept_value}
 use Rattle.ts_search.specs.Views.{search_of}
-use Rattle.ts_search.proofs.Posed.{kept_told, looks_of, objective_long, told_in}
+use Rattle.ts_search.proofs.Posed.{aimed, kept_told, looks_of, objective_long, told_in}
 use Rattle.ts_search.proofs.contest.Contest.kept_value.Goals as goal
+
+pub kept_value-requires-clause-on : goal.kept_value-requires-clause-on
+kept_value-requires-clause-on c = c.requires.asked.on (aimed c.args.self.now c.requires.objective)
 
 pub kept_value-requires-clause-there : goal.kept_value-requires-clause-there
 kept_value-requires-clause-there c =

@@ -13,5 +13,5 @@ pub returns-clause-asked : goal.returns-clause-asked
 returns-clause-asked c =
     let asked = c.requires.asked in
     on_ok_weaker c.bring.result
-    (λ on. record { posed = asked.posed; part = asked.part; tables = c.bring.ensures.machines ∙ asked.tables; on = on })
+    (λ on. record { posed = asked.posed; part = asked.part; tables = c.bring.ensures.machines ∙ asked.tables; on = λ busy. on })
     c.bring.ensures.on

@@ -6,9 +6,12 @@ use Rattle.ts_filter.specs.OfTerm.{OfTerm}
 use Rattle.ts_search.specs.Drops.{least}
 use Rattle.ts_search.specs.LineOf.{inner, is_refuted_at}
 use Rattle.ts_search.specs.Views.{search_of}
-use Rattle.ts_search.proofs.Posed.{first_refuted_told, looks_of, required_is, required_there, tables_long, told_in}
+use Rattle.ts_search.proofs.Posed.{busy, first_refuted_told, looks_of, required_is, required_there, tables_long, told_in}
 use Rattle.ts_search.proofs.Witnessed.{shown_nowhere}
 use Rattle.ts_search.proofs.problem.Problem.first_refuted.Goals as goal
+
+pub first_refuted-requires-clause-on : goal.first_refuted-requires-clause-on
+first_refuted-requires-clause-on c = c.requires.asked.on (busy c.args.self.now c.args.j c.requires.from c.requires.to)
 
 pub first_refuted-requires-clause-there : goal.first_refuted-requires-clause-there
 first_refuted-requires-clause-there c =
@@ -19,7 +22,8 @@ first_refuted-requires-clause-there c =
 pub first_refuted-requires-clause-looks : goal.first_refuted-requires-clause-looks
 first_refuted-requires-clause-looks c =
     let q = c.args.self.now in
-    looks_of q c.requires.asked.posed c.args.cells.now.present c.requires.asked.part c.args.tables.now.machines c.index-require.result.now.term c.requires.asked.tables
+    looks_of q c.requires.asked.posed c.args.cells.now.present c.requires.asked.part c.args.tables.now.machines c.index-require.result.now.term
+    c.requires.asked.tables
 
 -- its witness meets it
 pub returns-then-shows-clause-found : goal.returns-then-shows-clause-found

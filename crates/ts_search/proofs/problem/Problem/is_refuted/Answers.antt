@@ -1,7 +1,7 @@
 use Rattle.std.proofs.lemmas.Result.{IfOk-weaker}
 use Rattle.ts_search.specs.LineOf.{last, is_refuted_at}
 use Rattle.ts_search.specs.Views.{search_of}
-use Rattle.ts_search.proofs.Posed.{looks_of, part_size, refuted_told, required_is, required_there, some_cells, tables_long, told_in}
+use Rattle.ts_search.proofs.Posed.{busy, looks_of, part_size, refuted_told, required_is, required_there, some_cells, tables_long, told_in}
 use Rattle.std.proofs.Common.{arith, ◌↔◌, ◌≡◌, sym}
 use Rattle.std.specs.Prelude.{IsTrue}
 use Rattle.ts_bound.specs.TermSpans.{term_span}
@@ -9,6 +9,9 @@ use Rattle.ts_filter.specs.Excluded.{Refutes}
 use Rattle.ts_filter.specs.OfTerm.{OfTerm}
 use Rattle.ts_search.proofs.Witnessed.{shown_alive}
 use Rattle.ts_search.proofs.problem.Problem.is_refuted.Goals as goal
+
+pub refuted-requires-clause-on : goal.refuted-requires-clause-on
+refuted-requires-clause-on c = c.requires.asked.on (busy c.args.self.now c.args.j c.requires.from c.requires.to)
 
 pub refuted-requires-clause-there : goal.refuted-requires-clause-there
 refuted-requires-clause-there c =
@@ -28,7 +31,8 @@ refuted-requires-clause-usable c = λ a is plain. c.cells.ensures.count
 pub refuted-requires-clause-looks : goal.refuted-requires-clause-looks
 refuted-requires-clause-looks c =
     let q = c.args.self.now in
-    looks_of q c.requires.asked.posed c.args.cells.now.present c.requires.asked.part c.args.tables.now.machines c.index-require.result.now.term c.requires.asked.tables
+    looks_of q c.requires.asked.posed c.args.cells.now.present c.requires.asked.part c.args.tables.now.machines c.index-require.result.now.term
+    c.requires.asked.tables
 
 -- its witness meets it
 pub returns-then-shows-clause-told : goal.returns-then-shows-clause-told

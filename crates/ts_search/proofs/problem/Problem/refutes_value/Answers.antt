@@ -11,14 +11,18 @@ use Rattle.ts_filter.proofs.SoundLaws.{clash}
 use Rattle.ts_search.specs.LineOf.{is_refuted_at}
 use Rattle.ts_search.specs.Views.{search_of}
 use Rattle.ts_search.proofs.CodeLeaps.{value_told}
-use Rattle.ts_search.proofs.Posed.{looks_of, required_is, required_there, tables_long, told_in}
+use Rattle.ts_search.proofs.Posed.{busy, looks_of, required_is, required_there, tables_long, told_in}
 use Rattle.ts_search.proofs.problem.Problem.refutes_value.Goals.{else-is_plain-via-then-is_plain+else-k-cells, else-is_plain-via-else-is_plain}
 use Rattle.ts_search.proofs.problem.Problem.refutes_value.Goals as goal
+
+pub refuted_value-requires-clause-on : goal.refuted_value-requires-clause-on
+refuted_value-requires-clause-on c = c.requires.asked.on (busy c.args.self.now c.args.j c.requires.from c.requires.to)
 
 pub refuted_value-requires-clause-looks : goal.refuted_value-requires-clause-looks
 refuted_value-requires-clause-looks c =
     let q = c.args.self.now in
-    looks_of q c.requires.asked.posed c.args.cells.now.present c.requires.asked.part c.args.tables.now.machines c.index-require.result.now.term c.requires.asked.tables
+    looks_of q c.requires.asked.posed c.args.cells.now.present c.requires.asked.part c.args.tables.now.machines c.index-require.result.now.term
+    c.requires.asked.tables
 
 pub returns-clause-told : goal.returns-clause-told
 returns-clause-told c =

@@ -34,7 +34,8 @@ better-left-requires-clause-to c =
     let b = c.args.cells.now.present in
     let is_first = c.ends-first.ensures.first ∙ ap first_looked c.window.ensures in
     let is_last = c.ends-first.ensures.last ∙ ap (λ z. last_looked z c.cells.result) c.window.ensures ∙ ap (last_looked w) c.cells.ensures.count in
-    let below = place_below w b c.requires.looks c.ends-first.result.0 c.ends-first.result.1 c.loop-k.k is_first is_last c.loop-k.invariant.from c.loop-k-test.true in
+    let below = place_below w b c.requires.looks c.ends-first.result.0 c.ends-first.result.1 c.loop-k.k is_first is_last c.loop-k.invariant.from
+    c.loop-k-test.true in
     let count = box_length (series_of c.loop-k.self.witness) (looked_at w b) c.loop-k.invariant.inside in omega (arith, below, count, is_first)
 
 pub better-left-requires-clause-there : goal.better-left-requires-clause-there
@@ -43,7 +44,8 @@ better-left-requires-clause-there c =
     let b = c.args.cells.now.present in
     let is_first = c.ends-first.ensures.first ∙ ap first_looked c.window.ensures in
     let is_last = c.ends-first.ensures.last ∙ ap (λ z. last_looked z c.cells.result) c.window.ensures ∙ ap (last_looked w) c.cells.ensures.count in
-    λ v e. value_at_place w b c.requires.looks c.ends-first.result.0 c.ends-first.result.1 c.loop-k.k is_first is_last c.loop-k.invariant.from c.loop-k-test.true
+    λ v e. value_at_place w b c.requires.looks c.ends-first.result.0 c.ends-first.result.1 c.loop-k.k is_first is_last c.loop-k.invariant.from
+    c.loop-k-test.true
     (series_of c.loop-k.self.witness) c.cell.result.now v c.cell.ensures c.loop-k.invariant.inside e
 
 pub loop-k-preserved : goal.loop-k-preserved

@@ -44,7 +44,8 @@ seat-requires-clause-to c =
     let b = c.args.cells.now.present in
     let is_first = c.ends-first.ensures.first ∙ ap first_looked c.window.ensures in
     let is_last = c.ends-first.ensures.last ∙ ap (λ z. last_looked z c.cells.result) c.window.ensures ∙ ap (last_looked w) c.cells.ensures.count in
-    let below = place_below w b c.requires.looks c.ends-first.result.0 c.ends-first.result.1 c.loop-k.k is_first is_last c.loop-k.invariant.from c.loop-k-test.true in
+    let below = place_below w b c.requires.looks c.ends-first.result.0 c.ends-first.result.1 c.loop-k.k is_first is_last c.loop-k.invariant.from
+    c.loop-k-test.true in
     let count = c.loop-k.invariant.count in omega (arith, below, count, is_first)
 
 pub loop-k-preserved : goal.loop-k-preserved

@@ -77,7 +77,8 @@ loop-i-preserved c =
     let after : Witnesses = record { each = with_item w.each i c.bring.new.self; kept = w.kept; ends = w.ends } in
     record {
       count = length-set w.each.items i c.bring.new.self ∙ c.loop-i.invariant.count;
-      held = held_after q c.requires.posed w b c.requires.part c.loop-i.invariant.held i s r there require c.bring.new.self after refl refl refl c.bring.ensures.machine
+      held = held_after q c.requires.posed w b c.requires.part c.loop-i.invariant.held i s r there require c.bring.new.self after refl refl refl
+          c.bring.ensures.machine
           c.bring.ensures.cells c.bring.ensures.held c.bring.ensures.inside;
       inside = inside_after q c.requires.posed w b c.requires.part c.loop-i.invariant.held i s r there require c.bring.new.self after refl refl refl
           c.bring.ensures.machine c.bring.ensures.cells c.bring.ensures.held c.bring.ensures.inside c.loop-i.invariant.inside;
