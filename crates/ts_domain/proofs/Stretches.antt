@@ -1,6 +1,6 @@
 -- Numbers of a set that follow one another without a gap, and a set that is one range.
 use Rattle.std.proofs.Common.{◌≡◌, ℕ, zero, suc, ◌+◌, ◌<◌, ℤ, pos, neg_ℤ, ◌+ℤ◌, ◌-ℤ◌, ◌≤ℤ◌}
-use Rattle.std.proofs.Common.{◌<ℤ◌, inl, inr, true, false, None, Some, List, [], ◌∷◌, length, get_or}
+use Rattle.std.proofs.Common.{◌<ℤ◌, ◌↔◌, inl, inr, Bool, true, false, IsTrue, None, Some, List, [], ◌∷◌, length, get_or}
 use Rattle.std.proofs.Common.{refl, sym, ap, ◌∙◌, subst, arith, slice_get, drop, append-nil}
 use Rattle.std.proofs.lemmas.Int.{ints, to_z-of_z, by_lt_z}
 use Rattle.std.proofs.lemmas.Option.{get_or_from_slice_get, slice_get_within}
@@ -20,7 +20,7 @@ use Rattle.ts_domain.proofs.Sets.{contains_cons, nothing_in, each_contains, each
 use Rattle.ts_domain.proofs.Runs.{natural_is, length-between, rising_run, in_between, between_has}
 use Rattle.ts_domain.proofs.Ranges.{value_in_some, some_has_value}
 use Rattle.ts_domain.proofs.SameSets.{same_set}
-use Rattle.ts_domain.proofs.PieceLaws.{contains_in}
+use Rattle.ts_domain.proofs.PieceLaws.{contains_in, low_in, high_in}
 use Rattle.ts_domain.proofs.PieceReads.{at_between, read_at}
 use Rattle.ts_domain.proofs.CutLaws.{m, value_within, ends_small, le_is, not_lt}
 use Rattle.ts_domain.proofs.Places.{ends_are, has_is, has_then, small_is}
@@ -127,6 +127,39 @@ one_range rs p ms d view is none one =
       ordered = is.piece.0;
       to = high.1;
     }
+
+-- a piece of one number with no marks
+pub single_range : (rs : List Interval) (p : Interval) (ms : List Mark) (d : List ℤ) → numbers (values_in (values_of rs) p) ms ≡ d → IsMarked rs p ms →
+    ms ≡ [] → p.low ≡ p.high → IsRange d p
+single_range rs p ms d view is none one =
+    let low = value_within rs p.low is.set.apart is.piece.1 in let high = value_within rs p.high is.set.apart is.piece.2 in record {
+      same = same_set d (values_between p.low p.high) (marked_domain rs p ms d view is).rising (rising_between p.low p.high) (λ v. (
+        λ has. let h = plain_between rs p ms d view is none v has in between_has p.low p.high v h.0 h.1,
+        λ has. let h = in_between p.low p.high v (past p.low p.high is.piece.0) has in
+            subst (Contains d) (equal p.low p.high v one h.0 h.1) (plain_low rs p ms d view is none),
+      ));
+      from = low.0;
+      ordered = is.piece.0;
+      to = high.1;
+    }
+  where
+    past : (a b : ℤ) → a ≤ℤ b → a ≤ℤ (b +ℤ pos 1)
+    past a b le = omega (arith, ints, le)
+
+    equal : (a b v : ℤ) → a ≡ b → a ≤ℤ v → v ≤ℤ b → a ≡ v
+    equal a b v e le le' = omega (arith, ints, e, le, le')
+
+pub range_contains : (d : List ℤ) (r : Interval) (v w : ℤ) (answer : Bool) → IsRange d r → w ≡ v → IsTrue answer ↔ ((r.low ≤ℤ w) × (w ≤ℤ r.high)) →
+    IsTrue answer ↔ Contains d v
+range_contains d r v w answer is e test = (
+  λ yes. let h = subst (λ u. (r.low ≤ℤ u) × (u ≤ℤ r.high)) e (test.0 yes) in
+      subst (λ l. Contains l v) (sym is.same) (between_has r.low r.high v h.0 h.1),
+  λ has. test.1 (subst (λ u. (r.low ≤ℤ u) × (u ≤ℤ r.high)) (sym e)
+      (in_between r.low r.high v (past r.low r.high is.ordered) (subst (λ l. Contains l v) is.same has))),
+)
+  where
+    past : (a b : ℤ) → a ≤ℤ b → a ≤ℤ (b +ℤ pos 1)
+    past a b le = omega (arith, ints, le)
 
 pub range_place : (d : List ℤ) (r : Interval) (i : ℕ) → IsRange d r → i < length d → slice_get d i ≡ Some (r.low +ℤ pos i)
 range_place d r i is below =
@@ -295,21 +328,80 @@ run_next d i low high from le to all = record { from = from; ordered = omega (ar
 pub went_on : (old new : List ℤ) (v : ℤ) → old ≡ v ∷ new → length new < length old
 went_on old new v e = omega (arith, ap length e)
 
--- the least number of a set with no marks
+-- the least number of a set that has no mark up to the low end of its piece
 pub record IsLeast (d : List ℤ) (l : ℤ) : Type 0 where
   pub value : l ≡ least_of d
   pub there : Contains d l
   pub first : slice_get d 0 ≡ Some l
   pub least : (v : ℤ) → Contains d v → l ≤ℤ v
 
+-- a number where no mark is
+unmarked : (rs : List Interval) (p : Interval) (ms : List Mark) (d : List ℤ) → numbers (values_in (values_of rs) p) ms ≡ d → IsMarked rs p ms → (v : ℤ) →
+    mark_at v ms ≡ None → Contains d v ↔ Contains (values_in (values_of rs) p) v
+unmarked rs p ms d view is v none = subst (λ o. Contains d v ↔ IsThere (values_in (values_of rs) p) o v) none (marked_has rs p ms d view is v)
+
 pub plain_least : (rs : List Interval) (p : Interval) (ms : List Mark) (d : List ℤ) → numbers (values_in (values_of rs) p) ms ≡ d → IsMarked rs p ms →
-    ms ≡ [] → IsLeast d (m p.low)
-plain_least rs p ms d view is none =
-    let least : (v : ℤ) → Contains d v → p.low ≤ℤ v = λ v has. (plain_between rs p ms d view is none v has).0 in
-    let first = first_at d p.low (marked_domain rs p ms d view is).rising (plain_low rs p ms d view is none) least in
+    (a r : ℤ) → a <ℤ bottom → p.low ≤ℤ r → ((w : ℤ) → a <ℤ w → w ≤ℤ r → mark_at w ms ≡ None) → IsLeast d (m p.low)
+plain_least rs p ms d view is a r below reach free =
+    let domain = marked_domain rs p ms d view is in
+    let first = first_at d p.low domain.rising there least in
     subst (IsLeast d) (sym (ends_small rs p is.set.apart is.piece).0) (record {
       value = sym (get_or_from_slice_get d 0 p.low (pos 0) first);
-      there = plain_low rs p ms d view is none;
+      there = there;
       first = first;
       least = least;
     })
+  where
+    none : (v : ℤ) → bottom ≤ℤ v → v ≤ℤ p.low → mark_at v ms ≡ None
+    none v from to = free v (omega (arith, ints, below, from)) (omega (arith, ints, to, reach))
+
+    there : Contains d p.low
+    there = (unmarked rs p ms d view is p.low (none p.low (value_within rs p.low is.set.apart is.piece.1).0 (omega (arith, ints)))).1
+        (low_in (values_of rs) p is.piece)
+
+    least : (v : ℤ) → Contains d v → p.low ≤ℤ v
+    least v has =
+        let within = each_contains WithinLimits d v (marked_domain rs p ms d view is).within has in
+        by_lt_z v p.low (λ lt. ((contains_in (values_of rs) p v).0
+        ((unmarked rs p ms d view is v (none v within.0 (omega (arith, ints, lt)))).0 has)).1) (λ le. le)
+
+-- the greatest number of a set that has no mark from the high end of its piece on
+pub plain_greatest : (rs : List Interval) (p : Interval) (ms : List Mark) (d : List ℤ) → numbers (values_in (values_of rs) p) ms ≡ d → IsMarked rs p ms →
+    (a r : ℤ) → a <ℤ p.high → pos 1000000 ≤ℤ r → ((w : ℤ) → a <ℤ w → w ≤ℤ r → mark_at w ms ≡ None) →
+    Contains d p.high × ((v : ℤ) → Contains d v → v ≤ℤ p.high)
+plain_greatest rs p ms d view is a r below reach free = (there, greatest)
+  where
+    none : (v : ℤ) → p.high ≤ℤ v → v ≤ℤ pos 1000000 → mark_at v ms ≡ None
+    none v from to = free v (omega (arith, ints, below, from)) (omega (arith, ints, to, reach))
+
+    there : Contains d p.high
+    there = (unmarked rs p ms d view is p.high (none p.high (omega (arith, ints)) (value_within rs p.high is.set.apart is.piece.2).1)).1
+        (high_in (values_of rs) p is.piece)
+
+    greatest : (v : ℤ) → Contains d v → v ≤ℤ p.high
+    greatest v has =
+        let within = each_contains WithinLimits d v (marked_domain rs p ms d view is).within has in
+        by_lt_z p.high v (λ lt. ((contains_in (values_of rs) p v).0
+        ((unmarked rs p ms d view is v (none v (omega (arith, ints, lt)) within.1)).0 has)).2) (λ le. le)
+
+-- the same, of what was read in machine numbers
+pub least_given : (rs : List Interval) (p : Interval) (ms : List Mark) (d : List ℤ) → numbers (values_in (values_of rs) p) ms ≡ d → IsMarked rs p ms →
+    (r : ℤ) → SFits w64 r → m r ≡ m p.low → ((w : ℤ) → neg_ℤ (pos 1000001) <ℤ w → w ≤ℤ r → mark_at w ms ≡ None) → IsLeast d (m p.low)
+least_given rs p ms d view is r fits e free =
+    let low = (ends_small rs p is.set.apart is.piece).0 in let r_is = to_z-of_z w64 r fits in
+    plain_least rs p ms d view is (neg_ℤ (pos 1000001)) r (omega (arith, ints)) (omega (arith, ints, e, low, r_is)) free
+
+pub high_small : (rs : List Interval) (p : Interval) (ms : List Mark) → IsMarked rs p ms →
+    (m p.high ≡ p.high) × (m (m p.high -ℤ pos 1) ≡ p.high -ℤ pos 1) × (bottom ≤ℤ p.high) × (p.high ≤ℤ pos 1000000)
+high_small rs p ms is =
+    let within = value_within rs p.high is.set.apart is.piece.2 in let high = (ends_small rs p is.set.apart is.piece).1 in
+    let from = within.0 in let to = within.1 in
+    (high, ap (λ x. m (x -ℤ pos 1)) high ∙ medium_is (p.high -ℤ pos 1) (omega (arith, ints, from)) (omega (arith, ints, to)), from, to)
+
+pub greatest_given : (rs : List Interval) (p : Interval) (ms : List Mark) (d : List ℤ) → numbers (values_in (values_of rs) p) ms ≡ d → IsMarked rs p ms →
+    (r : ℤ) → SFits w64 r → m r ≡ pos 1000000 → ((w : ℤ) → m (m p.high -ℤ pos 1) <ℤ w → w ≤ℤ r → mark_at w ms ≡ None) →
+    Contains d (m p.high) × ((v : ℤ) → Contains d v → v ≤ℤ m p.high)
+greatest_given rs p ms d view is r fits e free =
+    let small = high_small rs p ms is in let below = small.1 in let r_is = to_z-of_z w64 r fits in
+    subst (λ h. Contains d h × ((v : ℤ) → Contains d v → v ≤ℤ h)) (sym small.0)
+    (plain_greatest rs p ms d view is (m (m p.high -ℤ pos 1)) r (omega (arith, ints, below)) (omega (arith, ints, e, r_is)) free)

@@ -101,6 +101,9 @@ impl Domain {
     pub fn contains(&self, v: i64) -> bool
         ensures { IsTrue result ↔ Contains self.now v }
     {
+        if let Some(range) = self.as_range() {
+            return range.has(v);
+        }
         match self.marks.at(v) {
             Some(gone) => !gone,
             None => has_in(self.ranges.items.as_slice(), self.piece, v),
@@ -122,7 +125,7 @@ impl Domain {
     fn as_range(&self) -> Option<Interval>
         ensures { IfSome result (IsRange self.now) }
     {
-        if self.marks.is_empty() && self.ranges.items.len() == 1 {
+        if self.marks.is_empty() && (self.ranges.items.len() == 1 || self.piece.is_single()) {
             Some(self.piece)
         } else {
             None
@@ -214,7 +217,7 @@ impl Domain {
             && self.ranges.items == other.ranges.items
     }
 
-    /// The least number.
+    /// The least number: the low end of the piece, where no mark stands there or below it.
     pub fn least(&self) -> i64
         ensures value { result ≡ least_of self.now }
         ensures there { Contains self.now result }
@@ -222,8 +225,9 @@ impl Domain {
         ensures least { (v : ℤ) → Contains self.now v → result ≤ℤ v }
         ensures domain { IsDomain self.now }
     {
-        if self.marks.is_empty() {
-            return self.piece.low;
+        let low = self.piece.low;
+        if self.marks.free_to(BELOW_ALL, low) == low {
+            return low;
         }
         self.nth(0)
     }
@@ -234,13 +238,22 @@ impl Domain {
         ensures high { Contains self.now result.high }
         ensures all { (v : ℤ) → Contains self.now v → (result.low ≤ℤ v) × (v ≤ℤ result.high) }
     {
-        if self.marks.is_empty() {
-            return self.piece;
-        }
         Interval {
-            low: self.nth(0),
-            high: self.nth(self.size() - 1),
+            low: self.least(),
+            high: self.greatest(),
         }
+    }
+
+    /// The greatest number: the high end of the piece, where no mark stands there or above it.
+    fn greatest(&self) -> i64
+        ensures there { Contains self.now result }
+        ensures greatest { (v : ℤ) → Contains self.now v → v ≤ℤ result }
+    {
+        let high = self.piece.high;
+        if self.marks.free_to(high - 1, CELL_VALUE) == CELL_VALUE {
+            return high;
+        }
+        self.nth(self.size() - 1)
     }
 
     /// The numbers in rising order; of those that follow one another without a gap only the first is searched for.

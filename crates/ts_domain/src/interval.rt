@@ -28,4 +28,11 @@ impl Interval {
     {
         self.low == self.high
     }
+
+    /// Whether the number is one of it.
+    pub(crate) fn has(self, v: i64) -> bool
+        ensures { IsTrue result ↔ ((self.low ≤ℤ v) × (v ≤ℤ self.high)) }
+    {
+        self.low <= v && v <= self.high
+    }
 }
