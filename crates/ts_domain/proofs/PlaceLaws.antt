@@ -1,7 +1,7 @@
 -- The place of a number of a set, by how many there are up to it.
 use Rattle.std.proofs.Common.{◌≡◌, ℕ, zero, suc, ◌-◌, ◌≤◌, ℤ, pos, neg_ℤ, ◌+ℤ◌, ◌-ℤ◌, ◌≤ℤ◌}
 use Rattle.std.proofs.Common.{◌<ℤ◌, inl, inr, not, true, false, cond, Some, List, [], ◌∷◌, ◌++◌, length}
-use Rattle.std.proofs.Common.{sym, ap, ◌∙◌, subst, arith, slice_get, append-nil}
+use Rattle.std.proofs.Common.{get_or, sym, ap, ◌∙◌, subst, arith, slice_get, append-nil}
 use Rattle.std.proofs.lemmas.Int.{ints, to_z-of_z}
 use mir.Val.{SFits}
 use mir.Syntax.{w64}
@@ -13,7 +13,7 @@ use Rattle.ts_domain.specs.declared.marks.Node.{Node}
 use Rattle.ts_domain.specs.Kept.{values_up_to, values_above, values_without}
 use Rattle.ts_domain.specs.Marks.{gain, gain_of, MarksFrom, numbers}
 use Rattle.ts_domain.specs.Pieces.{values_in, IsMarked}
-use Rattle.ts_domain.specs.Values.{IsRising, IsRange, values_of}
+use Rattle.ts_domain.specs.Values.{IsRising, IsRange, RangesFrom, values_between, values_of}
 use Rattle.ts_domain.proofs.Sets.{contains_cons, nothing_in, each_contains, filter_none, rising_filter, le_true, le_false}
 use Rattle.ts_domain.proofs.BoxLaws.{contains_up_to, contains_above, contains_without}
 use Rattle.ts_domain.proofs.Runs.{in_between}
@@ -181,3 +181,15 @@ but_high d r v is e =
 
     other_below : (a b : ℤ) → b ≤ℤ a → (b ≡ a → ⊥) → b ≤ℤ (a -ℤ pos 1)
     other_below a b le ne = grind (arith, ints, le, ne)
+
+-- one range alone
+alone : (rs : List Interval) (e : Interval) → length rs ≡ 1 → RangesFrom (neg_ℤ (pos 1000000)) rs → IsRange (values_of rs) (get_or rs 0 e)
+unfolding RangesFrom values_of
+alone [] e one apart = absurd (omega (arith, one))
+alone (r ∷ s ∷ rs) e one apart = absurd (omega (arith, one))
+alone (r ∷ []) e one apart = record { same = append-nil (values_between r.low r.high); from = apart.0; ordered = apart.1; to = apart.2 }
+
+pub single_is : (rs items : List Interval) (e : Interval) → items ≡ rs → length items ≡ 1 → RangesFrom (neg_ℤ (pos 1000000)) rs →
+    IsRange (values_of rs) (get_or items 0 e)
+single_is rs items e same one apart =
+    subst (λ l. IsRange (values_of rs) (get_or l 0 e)) (sym same) (alone rs e (ap length (sym same) ∙ one) apart)

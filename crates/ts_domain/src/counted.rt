@@ -29,13 +29,16 @@ impl CountedRanges {
         Ok(CountedRanges { items, before })
     }
 
-    /// The place of one of the numbers, counted from 0.
+    /// The place of one of the numbers, counted from 0; in one range alone nothing has to be searched for.
     pub(crate) fn place_of(&self, v: i64) -> u64
         requires apart { RangesFrom (neg_ℤ greatest_value) self.now.items.items }
         requires has { Contains (values_of self.now.items.items) v }
         ensures { slice_get (values_of self.now.items.items) result ≡ Some v }
     {
         let items = self.items.as_slice();
+        if items.len() == 1 {
+            return (v - items[0].low) as u64;
+        }
         let before = self.before.as_slice();
         let at = ended_below(items, v);
         let above = v - items[at].low;
