@@ -1,5 +1,5 @@
 -- Numbers of a set that follow one another without a gap, and a set that is one range.
-use Rattle.std.proofs.Common.{◌≡◌, ℕ, zero, suc, ◌+◌, ◌<◌, ℤ, pos, neg_ℤ, ◌+ℤ◌, ◌-ℤ◌, ◌≤ℤ◌}
+use Rattle.std.proofs.Common.{◌≡◌, ℕ, zero, suc, ◌+◌, ◌-◌, ◌<◌, ℤ, pos, neg_ℤ, ◌+ℤ◌, ◌-ℤ◌, ◌≤ℤ◌}
 use Rattle.std.proofs.Common.{◌<ℤ◌, ◌↔◌, inl, inr, Bool, true, false, IsTrue, None, Some, List, [], ◌∷◌, length, get_or}
 use Rattle.std.proofs.Common.{refl, sym, ap, ◌∙◌, subst, arith, slice_get, drop, append-nil}
 use Rattle.std.proofs.lemmas.Int.{ints, to_z-of_z, by_lt_z}
@@ -88,6 +88,22 @@ first_at (x ∷ xs) l rise has least = elim ((contains_cons x xs l).0 has) [
   | inr there ↦ let lt = each_contains (λ y. x <ℤ y) xs l rise.0 there in let le = least x ((contains_cons x xs x).1 (inl refl)) in
       absurd (omega (arith, ints, lt, le))
 ]
+
+-- the greatest number stands last
+pub last_at : (xs : List ℤ) (h : ℤ) → IsRising xs → Contains xs h → ((v : ℤ) → Contains xs v → v ≤ℤ h) → slice_get xs (length xs - 1) ≡ Some h
+unfolding IsRising
+last_at [] h rise has greatest = absurd (nothing_in h has)
+last_at (x ∷ []) h rise has greatest = elim ((contains_cons x [] h).0 has) [ inl e ↦ ap (λ z. Some z) e | inr there ↦ absurd (nothing_in h there) ]
+last_at (x ∷ y ∷ ys) h rise has greatest = elim ((contains_cons x (y ∷ ys) h).0 has) [
+  | inl e ↦ let lt = rise.0.0 in let le = greatest y ((contains_cons x (y ∷ ys) y).1 (inr ((contains_cons y ys y).1 (inl refl)))) in
+      absurd (omega (arith, ints, e, lt, le))
+  | inr there ↦ let place : length (x ∷ y ∷ ys) - 1 ≡ suc (length (y ∷ ys) - 1) = omega arith in
+      ap (slice_get (x ∷ y ∷ ys)) place ∙
+      last_at (y ∷ ys) h rise.1 there (λ v here. greatest v ((contains_cons x (y ∷ ys) v).1 (inr here)))
+]
+
+pub last_of : (xs : List ℤ) (i size : ℕ) (h : ℤ) → size ≡ length xs → i + 1 ≡ size → slice_get xs (length xs - 1) ≡ Some h → slice_get xs i ≡ Some h
+last_of xs i size h e one at = let place : i ≡ length xs - 1 = omega (arith, e, one) in ap (slice_get xs) place ∙ at
 
 -- a set that is one range
 rising_between : (low high : ℤ) → IsRising (values_between low high)

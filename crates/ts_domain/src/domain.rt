@@ -1,6 +1,6 @@
 //! Non-empty finite sets of numbers.
 
-ghost use Rattle.std.specs.Prelude.{◌≡◌, ◌≢◌, ◌<◌, ◌≤ℤ◌, ◌↔◌, ℤ, neg_ℤ, ◌⊎◌};
+ghost use Rattle.std.specs.Prelude.{◌≡◌, ◌≢◌, ◌<◌, ◌-◌, ◌≤ℤ◌, ◌↔◌, ℤ, neg_ℤ, ◌⊎◌};
 ghost use Rattle.std.specs.Prelude.{[], length, slice_get, Some, IsTrue, IfOk, IfSome, All, Contains};
 ghost use Rattle.ts_base.specs.Limits.{greatest_value};
 ghost use Rattle.ts_domain.specs.Kept.{values_kept, values_up_to, values_above, values_without};
@@ -170,18 +170,34 @@ impl Domain {
         with_more(count, self.marks.more_up_to(v)) - 1
     }
 
-    /// The number at place `i`, and how far the numbers follow one another from there without a gap.
-    pub(crate) fn run_from(&self, i: u64) -> Interval
-        requires { i < length self.now }
+    /// The number at place `i` of so many, and how far the numbers follow one another from there without a gap.
+    pub(crate) fn run_from(&self, i: u64, size: u64) -> Interval
+        requires below { i < size }
+        requires size { size ≡ length self.now }
         ensures from { neg_ℤ greatest_value ≤ℤ result.low }
         ensures ordered { result.low ≤ℤ result.high }
         ensures to { result.high ≤ℤ greatest_value }
         ensures stand { StandFrom self.now i result.low result.high }
     {
-        let low = self.nth(i);
+        let low = self.nth_of(i, size);
         Interval {
             low,
             high: self.run_end(low),
+        }
+    }
+
+    /// The number at place `i` of so many: the first and the last one need no search by place.
+    fn nth_of(&self, i: u64, size: u64) -> i64
+        requires below { i < size }
+        requires size { size ≡ length self.now }
+        ensures { slice_get self.now i ≡ Some result }
+    {
+        if i == 0 {
+            self.least()
+        } else if i + 1 == size {
+            self.greatest()
+        } else {
+            self.nth(i)
         }
     }
 
@@ -247,6 +263,7 @@ impl Domain {
     /// The greatest number: the high end of the piece, where no mark stands there or above it.
     fn greatest(&self) -> i64
         ensures there { Contains self.now result }
+        ensures last { slice_get self.now (length self.now - 1) ≡ Some result }
         ensures greatest { (v : ℤ) → Contains self.now v → v ≤ℤ result }
     {
         let high = self.piece.high;

@@ -42,7 +42,7 @@ impl<'a> Iterator for Values<'a> {
             if self.passed == self.size {
                 return None;
             }
-            let run = self.domain.run_from(self.passed);
+            let run = self.domain.run_from(self.passed, self.size);
             self.passed += 1;
             self.next = run.low + 1;
             self.last = run.high;
