@@ -26,7 +26,7 @@ use Rattle.ts_sweep.specs.Lanes.{least}
 use Rattle.ts_sweep.specs.OperatorLaws.{sum_within, greater_within, less_within, lesser_within}
 use Rattle.ts_sweep.specs.Packed.{AreSome, AreWithin, IsPackOf, IsSomeEnds, IsWithin, register_span}
 use Rattle.ts_meet.specs.declared.gluing.Gluing.{Gluing}
-use Rattle.ts_meet.specs.Joints.{IsFoldPlain, IsPlain, expression, folds_held, is_add, leaves_out, part_by}
+use Rattle.ts_meet.specs.Joints.{IsFoldPlain, IsPlain, expression, folds_held, is_add, joined_expression, leaves_out, part_by}
 use Rattle.ts_meet.specs.SideLaws.{cell_within}
 use Rattle.ts_meet.specs.Sides.{AreSomeEnds, ArePackOf, TakesAny, TakesPlain, plain_by, plain_values}
 
@@ -115,6 +115,19 @@ cells_by : (g : Gluing) (joins : Bool) → IsCellValue g.worth →
     AreCells (cond joins (join_of g.result (fold_of g.wide g.fold (part_by g))) (apart g.wide g.result))
 cells_by g true h = ((tt, tt), parts_cells g g.wide h)
 cells_by g false h = apart_cells g.wide g.result
+
+-- a gluing, where it is told whether one occurrence goes on
+abbrev pub told : Gluing → Bool → Gluing
+told g j = record {
+  result = g.result;
+  fold = g.fold;
+  worth = g.worth;
+  wide = g.wide;
+  joins = j;
+  trims = g.trims;
+  held_left = g.held_left;
+  held_right = g.held_right;
+}
 
 -- ends that are glued so stand for the glued span
 pub glued_packs : (m : Values Ends) (P : Operator → Ends → Ends → Type 0) →
@@ -389,6 +402,17 @@ module _ (a b : EachOf Ends) where
 
     pub plain_takes : (g : Gluing) → IsCellValue g.worth → IsPlain g a b → GlueTakes TakesPlain plain_values a b (expression g)
     plain_takes g h plain = plain_by_shape g h plain g.wide g.joins refl refl
+
+    abbrev by_joins : (g : Gluing) → Bool → Type 0
+    by_joins g j = GlueTakes TakesPlain plain_values a b (cond j (joined_expression g) (apart g.wide g.result))
+
+    pub plain_apart : (g : Gluing) → IsCellValue g.worth → IsPlain g a b → g.joins ≡ false →
+        GlueTakes TakesPlain plain_values a b (apart g.wide g.result)
+    plain_apart g h plain e = subst (by_joins g) e (plain_takes g h plain)
+
+    pub plain_joined : (g : Gluing) → IsCellValue g.worth → IsPlain g a b → g.joins ≡ true →
+        GlueTakes TakesPlain plain_values a b (joined_expression g)
+    plain_joined g h plain e = subst (by_joins g) e (plain_takes g h plain)
 
 pub trims_is : (a : ℕ) → nat_lt 0 a ≡ leaves_out a
 trims_is zero = refl

@@ -1,5 +1,5 @@
 -- How the two runs of a machine are glued, found once for a machine.
-use Rattle.std.specs.Prelude.{◌≡◌, ◌<◌, ℕ, zero, suc, Bool, true, false, ◌||◌, List, [], get_or, length, if◌then◌else◌}
+use Rattle.std.specs.Prelude.{◌≡◌, ◌<◌, ℕ, zero, suc, ℤ, Bool, true, false, ◌||◌, List, [], get_or, length, if◌then◌else◌}
 use Rattle.ts_base.specs.declared.op.Op.{Op}
 use Rattle.ts_base.specs.declared.op.Op.TheVariants.{Add, Max, Min}
 use Rattle.ts_automaton.specs.Body.{node_at}
@@ -16,9 +16,26 @@ use Rattle.ts_meet.specs.declared.joints.Joints.{Joints}
 abbrev pub part_by : Gluing → Op → Part → Glue
 part_by g o p = if g.trims then folded_between o p g.held_left g.held_right g.worth else folded_both o p g.worth
 
--- the expression of a pair of states
+-- the expression of a pair of states between which one occurrence goes on, and of any pair
+abbrev pub joined_expression : Gluing → Glue
+joined_expression g = join_of g.result (fold_of g.wide g.fold (part_by g))
+
 abbrev pub expression : Gluing → Glue
-expression g = if g.joins then join_of g.result (fold_of g.wide g.fold (part_by g)) else apart g.wide g.result
+expression g = if g.joins then joined_expression g else apart g.wide g.result
+
+-- the one where an occurrence goes on, told part by part
+abbrev pub told_joined : (o fold : Op) → ℤ → (wide trims held_left held_right : Bool) → Glue
+told_joined o fold worth wide trims held_left held_right =
+    joined_expression (record {
+      result = o;
+      fold = fold;
+      worth = worth;
+      wide = wide;
+      joins = true;
+      trims = trims;
+      held_left = held_left;
+      held_right = held_right;
+    })
 
 -- the operator adds
 abbrev pub is_add : Op → Bool

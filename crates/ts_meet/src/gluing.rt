@@ -6,7 +6,7 @@ ghost use Rattle.ts_base.specs.declared.ext.Ext.TheVariants.{Int};
 ghost use Rattle.ts_base.specs.Limits.{IsCellValue};
 ghost use Rattle.ts_glue.specs.Glue.{GlueTakes, apart, fold_of, folded_between, folded_both, glue_in, held_of, result_of};
 ghost use Rattle.ts_hull.specs.Sealed.{sealed_spans};
-ghost use Rattle.ts_meet.specs.Joints.{IsFoldPlain, IsPlain, expression, folds_held, is_add, part_by};
+ghost use Rattle.ts_meet.specs.Joints.{IsFoldPlain, IsPlain, expression, folds_held, is_add, joined_expression, part_by, told_joined};
 ghost use Rattle.ts_meet.specs.Sides.{ends_in, pointed_spans};
 ghost use Rattle.ts_row.specs.Rows.{lanes_of};
 ghost use Rattle.ts_sweep.specs.Fronts.{ArePlain};
@@ -68,8 +68,7 @@ impl Gluing {
     }
 
     /// The glued ends of two hulls before the mark, where an end that they haven't is read as the one that they have.
-    /// If all numbers that are added or taken away are small, sums are those of the lanes; otherwise they are clamped:
-    /// in place where that is common, between wide automata of which one holds nothing.
+    /// Where one occurrence goes on, that is a call: there is most to fold.
     #[inline(always)]
     fn pointed<const N: usize>(self, left: &PackedHull<N>, right: &PackedHull<N>) -> Ends
         requires registers { 6 ≤ lane_count N }
@@ -80,40 +79,71 @@ impl Gluing {
             (pointed_spans (sides N) (spans_of (unpacked (lanes_of N left.now))))
             (pointed_spans (sides N) (spans_of (unpacked (lanes_of N right.now)))) (expression self)) }
     {
-        let (first, second) = (Side::of(left), Side::of(right));
-        if self.is_plain(first, second) {
-            self.glued_by::<Plain>(first, second)
-        } else if self.wide {
-            self.glued_by::<Clamped>(first, second)
+        if self.joins {
+            joined_pair(
+                self.result,
+                self.fold,
+                self.worth,
+                self.wide,
+                self.trims,
+                self.held_left,
+                self.held_right,
+                left,
+                right,
+            )
         } else {
-            self.clamped(left, right)
+            self.pointed_apart(left, right)
         }
     }
 
-    /// The glued ends of two hulls before the mark, with clamped sums; rare between narrow automata.
-    #[inline(never)]
-    fn clamped<const N: usize>(self, left: &PackedHull<N>, right: &PackedHull<N>) -> Ends
+    /// The glued ends of two hulls before the mark, where no occurrence goes on. If all numbers that are added or taken
+    /// away are small, sums are those of the lanes; otherwise a call clamps them.
+    #[inline(always)]
+    fn pointed_apart<const N: usize>(self, left: &PackedHull<N>, right: &PackedHull<N>) -> Ends
         requires registers { 6 ≤ lane_count N }
         requires left { AreSome (lane_count N) (lanes_of N left.now) }
         requires right { AreSome (lane_count N) (lanes_of N right.now) }
         requires worth { IsCellValue self.worth }
+        requires apart { self.joins ≡ false }
         ensures { IsPackOf result (glue_in sealed_spans
             (pointed_spans (sides N) (spans_of (unpacked (lanes_of N left.now))))
-            (pointed_spans (sides N) (spans_of (unpacked (lanes_of N right.now)))) (expression self)) }
+            (pointed_spans (sides N) (spans_of (unpacked (lanes_of N right.now)))) (apart self.wide self.result)) }
     {
-        self.glued_by::<Clamped>(Side::of(left), Side::of(right))
+        let (first, second) = (Side::of(left), Side::of(right));
+        if self.is_apart_plain(first, second) {
+            self.answers::<Plain>(first, second)
+        } else {
+            clamped_apart(self.result, self.wide, left, right)
+        }
     }
 
-    /// The glued ends before the mark, with the sums `S`. Each operator meets ends that it takes.
+    /// The glued ends of two hulls before the mark, where one occurrence goes on.
     #[inline(always)]
-    pub(crate) fn glued_by<S: Sums>(self, left: Side, right: Side) -> Ends
-        requires fits { GlueTakes S.takes S.values (ends_in left) (ends_in right) (expression self) }
+    fn pointed_joined<const N: usize>(self, left: &PackedHull<N>, right: &PackedHull<N>) -> Ends
+        requires registers { 6 ≤ lane_count N }
+        requires left { AreSome (lane_count N) (lanes_of N left.now) }
+        requires right { AreSome (lane_count N) (lanes_of N right.now) }
         requires worth { IsCellValue self.worth }
-        ensures { result ≡ glue_in S.values (ends_in left) (ends_in right) (expression self) }
+        requires joined { self.joins ≡ true }
+        ensures { IsPackOf result (glue_in sealed_spans
+            (pointed_spans (sides N) (spans_of (unpacked (lanes_of N left.now))))
+            (pointed_spans (sides N) (spans_of (unpacked (lanes_of N right.now)))) (joined_expression self)) }
     {
-        if !self.joins {
-            return self.answers::<S>(left, right);
+        let (first, second) = (Side::of(left), Side::of(right));
+        if self.is_joined_plain(first, second) {
+            self.joined_by::<Plain>(first, second)
+        } else {
+            self.joined_by::<Clamped>(first, second)
         }
+    }
+
+    /// The glued ends before the mark, where one occurrence goes on, with the sums `S`.
+    #[inline(always)]
+    fn joined_by<S: Sums>(self, left: Side, right: Side) -> Ends
+        requires fits { GlueTakes S.takes S.values (ends_in left) (ends_in right) (joined_expression self) }
+        requires worth { IsCellValue self.worth }
+        ensures { result ≡ glue_in S.values (ends_in left) (ends_in right) (joined_expression self) }
+    {
         let join = Operator::Fold(self.result);
         S::joined(
             join,
@@ -260,23 +290,35 @@ impl Gluing {
         S::number(opposite(self.worth))
     }
 
-    /// Whether all numbers that are added or taken away are small. It is false where one occurrence goes on between wide
-    /// automata: what is open is infinite in most of their states.
+    /// Whether all numbers that are added or taken away are small, where no occurrence goes on.
     #[inline(always)]
-    fn is_plain(self, left: Side, right: Side) -> bool
+    fn is_apart_plain(self, left: Side, right: Side) -> bool
+        requires { self.joins ≡ false }
         ensures { result ≡ true → IsPlain self (ends_in left) (ends_in right) }
     {
         let adds = is_add(self.result);
         if adds && !(are_plain(left.r) && are_plain(right.r)) {
             return false;
         }
-        if self.joins {
-            !self.wide && (!(adds || is_add(self.fold)) || self.is_fold_plain(left, right))
-        } else if self.wide {
+        if self.wide {
             is_held_plain(left) && is_held_plain(right)
         } else {
             !adds || are_plain(left.c) && are_plain(right.c)
         }
+    }
+
+    /// Whether all numbers that are added or taken away are small, where one occurrence goes on. It is false between
+    /// wide automata: what is open is infinite in most of their states.
+    #[inline(always)]
+    fn is_joined_plain(self, left: Side, right: Side) -> bool
+        requires { self.joins ≡ true }
+        ensures { result ≡ true → IsPlain self (ends_in left) (ends_in right) }
+    {
+        let adds = is_add(self.result);
+        if self.wide || adds && !(are_plain(left.r) && are_plain(right.r)) {
+            return false;
+        }
+        !(adds || is_add(self.fold)) || self.is_fold_plain(left, right)
     }
 
     /// Whether all numbers that are folded are small.
@@ -289,6 +331,61 @@ impl Gluing {
             && (!folds_held(self.trims, self.held_left) || are_plain(left.c))
             && (!folds_held(self.trims, self.held_right) || are_plain(right.c))
     }
+}
+
+/// The glued ends of two hulls before the mark, where one occurrence goes on. How they are glued is told part by part,
+/// so that it needn't be stored where none goes on.
+#[inline(never)]
+fn joined_pair<const N: usize>(
+    operator: Op,
+    fold: Op,
+    worth: i64,
+    wide: bool,
+    trims: bool,
+    held_left: bool,
+    held_right: bool,
+    left: &PackedHull<N>,
+    right: &PackedHull<N>,
+) -> Ends
+    requires registers { 6 ≤ lane_count N }
+    requires left { AreSome (lane_count N) (lanes_of N left.now) }
+    requires right { AreSome (lane_count N) (lanes_of N right.now) }
+    requires worth { IsCellValue worth }
+    ensures { IsPackOf result (glue_in sealed_spans
+        (pointed_spans (sides N) (spans_of (unpacked (lanes_of N left.now))))
+        (pointed_spans (sides N) (spans_of (unpacked (lanes_of N right.now))))
+        (told_joined operator fold worth wide trims held_left held_right)) }
+{
+    let gluing = Gluing {
+        result: operator,
+        fold,
+        worth,
+        wide,
+        joins: true,
+        trims,
+        held_left,
+        held_right,
+    };
+    gluing.pointed_joined(left, right)
+}
+
+/// The answers of both runs joined, before the mark, with clamped sums.
+#[inline(never)]
+fn clamped_apart<const N: usize>(
+    operator: Op,
+    wide: bool,
+    left: &PackedHull<N>,
+    right: &PackedHull<N>,
+) -> Ends
+    requires registers { 6 ≤ lane_count N }
+    requires left { AreSome (lane_count N) (lanes_of N left.now) }
+    requires right { AreSome (lane_count N) (lanes_of N right.now) }
+    ensures { IsPackOf result (glue_in sealed_spans
+        (pointed_spans (sides N) (spans_of (unpacked (lanes_of N left.now))))
+        (pointed_spans (sides N) (spans_of (unpacked (lanes_of N right.now)))) (apart wide operator)) }
+{
+    let gluing = Gluing::apart(operator, wide);
+    gluing.answers::<Clamped>(Side::of(left), Side::of(right))
 }
 
 /// Whether what is held of an occurrence lies between small numbers, the greatest and the least of its cells.
