@@ -58,7 +58,8 @@ module _ {V : Type 0} (o : Operators V) (good : V → Type 0) (laws : FoldLaws o
       let rest : drop (k + 1) vs ≡ map over (y ∷ ys) = sym (drop-drop 1 k vs) ∙ ap (drop 1) e in
       let t = move_typed rows typed st.state l in
       let ranges =
-      result_step o good laws good_less laws_less a one vs z fine fine_less f (row_at rows st.state).kind (row_at rows m.next).kind k s r st.regs rs room t h i v in
+      result_step o good laws good_less laws_less a one vs z fine fine_less f (row_at rows st.state).kind
+      (row_at rows m.next).kind k s r st.regs rs room t h i v in
       let s' = start_after f (k + 1) s in
       let r' = held_after f a (k + 1) s r in
       let cells = half_step o.whole good laws fine x y k st.state s r st.regs.c st.regs.d room here next h in

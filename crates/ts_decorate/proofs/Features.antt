@@ -137,7 +137,8 @@ range_is g f r xs h =
     let some = h.1 in
     let count = cells_count r xs h in
     let low = constant_value (neutral_by (less_fold f)) in
-    ap (λ ys. read_by exact_operator (less_fold f) (fold (exact_op (cell_op f)) (neutral_value f) ys) (fold (λ u v. phi_by exact_operator (less_fold f) u v) low ys)) (items_are f r xs)
+    ap (λ ys. read_by exact_operator (less_fold f) (fold (exact_op (cell_op f)) (neutral_value f) ys)
+    (fold (λ u v. phi_by exact_operator (less_fold f) u v) low ys)) (items_are f r xs)
     ∙ some_cells f (cells_of r xs) (omega arith)
 
 features_are : (g : Aggregator) (f : Feature) (rs : List Range) (xs : List ℤ) → AllByRecursion (IsInside (length xs)) rs →

@@ -204,7 +204,8 @@ module _ {V : Type 0} (o : Operators V) (good : V → Type 0) (laws : FoldLaws o
   one_range : (y x : Range) → ◌≡◌ {A = Option Range} (Some y) (Some x) → y ≡ x
   one_range y x e = cc
 
-  read_held : (k : ℕ) (s : Option ℕ) (r : Option Range) (st : EachOf V) (rs : List Range) → Holds k Held s r st → HoldsLess k Held s r st → st.r ≡ ranges_value o xs rs →
+  read_held : (k : ℕ) (s : Option ℕ) (r : Option Range) (st : EachOf V) (rs : List Range) → Holds k Held s r st → HoldsLess k Held s r st →
+      st.r ≡ ranges_value o xs rs →
       total_of o st ≡ ranges_value o xs (rs ++ option_to_list r)
   read_held k s r st rs x y e =
       let same : y.0 ≡ x.0 = one_range y.0 x.0 (sym y.2 ∙ x.2) in
@@ -250,7 +251,8 @@ module _ {V : Type 0} (o : Operators V) (good : V → Type 0) (laws : FoldLaws o
       ∙ right st.r ∙ same_ranges rs st.r e ∙ ap (λ u. ranges_value o xs (rs ++ option_to_list u)) (sym n)
 
   -- the end: what is held is emitted
-  pub at_the_end : ((y : V) → o.g y (o.read o.whole.idle o.less.idle) ≡ y) → (k : ℕ) (κ : Kind) (s : Option ℕ) (r : Option Range) (st : EachOf V) (rs : List Range) →
+  pub at_the_end : ((y : V) → o.g y (o.read o.whole.idle o.less.idle) ≡ y) →
+      (k : ℕ) (κ : Kind) (s : Option ℕ) (r : Option Range) (st : EachOf V) (rs : List Range) →
       Holds k κ s r st → HoldsLess k κ s r st → st.r ≡ ranges_value o xs rs → total_of o st ≡ ranges_value o xs (rs ++ option_to_list r)
   at_the_end right k Idle s r st rs h i e = idle_end right r st rs h.2 i.2 h.1 e
   at_the_end right k Pending s r st rs h i e = idle_end right r st rs h.1 i.1 h.0 e

@@ -52,7 +52,8 @@ at_feature test h f =
     let s = and_parts (test One) (test Width) r.0 in
     go f s.0 s.1 r.1 q.1 p.1 o.1
   where
-    go : (f : Feature) → test One ≡ true → test Width ≡ true → test Surf ≡ true → test MaxFeature ≡ true → test MinFeature ≡ true → test Range ≡ true → test f ≡ true
+    go : (f : Feature) → test One ≡ true → test Width ≡ true → test Surf ≡ true → test MaxFeature ≡ true → test MinFeature ≡ true → test Range ≡ true →
+        test f ≡ true
     go One u v w x y z = u
     go Width u v w x y z = v
     go Surf u v w x y z = w

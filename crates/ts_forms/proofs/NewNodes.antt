@@ -181,10 +181,12 @@ module _ (old new : Forms) (n : Node) (t : IsTable old) (parts : HasParts (lengt
         table = record {
           places = ps ∙ ap (λ z. z ++ n ∷ []) t.places ∙ sym ns;
           as_many_nodes = ap (λ z. length z) ns ∙ push_length old.nodes.items n ∙ ap (λ z. z + 1) t.as_many_nodes ∙ sym more_length;
-          as_many_known = ap (λ z. length z) ks ∙ push_length old.known.items (words_of (shape_by (shapes old) n)) ∙ ap (λ z. z + 1) t.as_many_known ∙ sym more_length;
+          as_many_known =
+              ap (λ z. length z) ks ∙ push_length old.known.items (words_of (shape_by (shapes old) n)) ∙ ap (λ z. z + 1) t.as_many_known ∙ sym more_length;
           nodes = λ i m g. more_nodes i m (get_push old.nodes.items n m i (ap (λ z. slice_get z i) (sym ns) ∙ g));
           known = λ i k g. more_known i k (get_push old.known.items (words_of (shape_by (shapes old) n)) k i (ap (λ z. slice_get z i) (sym ks) ∙ g));
-          once = λ i k a b g. more_once i k (at_most i (length (shapes old)) (omega (arith, a, size))) (at_most k (length (shapes old)) (omega (arith, b, size))) g;
+          once = λ i k a b g. more_once i k (at_most i (length (shapes old)) (omega (arith, a, size)))
+              (at_most k (length (shapes old)) (omega (arith, b, size))) g;
         };
         grows = more_grows;
         number = (omega (arith, at, size), more_last j at);

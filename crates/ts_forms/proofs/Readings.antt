@@ -44,7 +44,8 @@ node_read f i n t q e = t.nodes i n (slice_get_read f.nodes.items (length f.node
 pub node_parts : (f : Forms) (i : ℕ) (n : Node) → IsTable f → i < length (shapes f) → n ≡ get_or f.nodes.items i n → HasParts i n
 node_parts f i n t q e = (node_read f i n t q e).0
 
-pub node_shape : (f : Forms) (i : ℕ) (n : Node) → IsTable f → i < length (shapes f) → n ≡ get_or f.nodes.items i n → form_at (shapes f) i ≡ shape_by (shapes f) n
+pub node_shape : (f : Forms) (i : ℕ) (n : Node) → IsTable f → i < length (shapes f) → n ≡ get_or f.nodes.items i n →
+    form_at (shapes f) i ≡ shape_by (shapes f) n
 node_shape f i n t q e = (node_read f i n t q e).1
 
 pub known_read : (f : Forms) (i : ℕ) (k : Known) → IsTable f → i < length (shapes f) → k ≡ get_or f.known.items i k →
@@ -115,7 +116,8 @@ table_noted old new i k t ns ps ks h =
       once = subst (λ (z : List Shape). (i j : ℕ) → i < length z → j < length z → form_at z i ≡ form_at z j → i ≡ j) is t.once;
     }
 
-pub same_table : (old new : Forms) → IsTable old → new.nodes.items ≡ old.nodes.items → new.places.keys ≡ old.places.keys → new.known.items ≡ old.known.items → IsTable new
+pub same_table : (old new : Forms) → IsTable old → new.nodes.items ≡ old.nodes.items → new.places.keys ≡ old.places.keys → new.known.items ≡ old.known.items →
+    IsTable new
 same_table old new t ns ps ks =
     let is : shapes old ≡ shapes new = ap (λ z. shapes_onto [] z) (sym ns) in
     record {
@@ -140,7 +142,8 @@ put_old old new n j t ns ps ks q =
       number = subst (λ z. IsNumberOf z (shape_by (shapes old) n) j) is (there, (t.nodes j n q).1);
     }
 
-pub normal_noted : (ss : List Shape) (r : Shape) (k : Known) (j : ℕ) → IsKnown ss r k → IsNumberOf ss (normal_form r) j → IsKnown ss r (record k { normal = Some j })
+pub normal_noted : (ss : List Shape) (r : Shape) (k : Known) (j : ℕ) → IsKnown ss r k → IsNumberOf ss (normal_form r) j →
+    IsKnown ss r (record k { normal = Some j })
 normal_noted ss r k j h n = record { nullable = h.nullable; some = h.some; longer = h.longer; normal = n; left = λ l. same_left l }
   where
     same_left : (l : Letter) → IsNoted ss (derivative r l) (left_on l (record k { normal = Some j }))
@@ -148,7 +151,8 @@ normal_noted ss r k j h n = record { nullable = h.nullable; some = h.some; longe
     same_left Equal = h.left Equal
     same_left Greater = h.left Greater
 
-pub left_noted : (ss : List Shape) (r : Shape) (k : Known) (l : Letter) (j : ℕ) → IsKnown ss r k → IsNumberOf ss (derivative r l) j → IsKnown ss r (left_with k l j)
+pub left_noted : (ss : List Shape) (r : Shape) (k : Known) (l : Letter) (j : ℕ) → IsKnown ss r k → IsNumberOf ss (derivative r l) j →
+    IsKnown ss r (left_with k l j)
 left_noted ss r k Less j h n = record { nullable = h.nullable; some = h.some; longer = h.longer; normal = h.normal; left = λ l. at_left l }
   where
     at_left : (l : Letter) → IsNoted ss (derivative r l) (left_on l (left_with k Less j))
@@ -171,14 +175,17 @@ left_noted ss r k Greater j h n = record { nullable = h.nullable; some = h.some;
 -- a note is made of expression i
 
 pub normal_in_table : (old new : Forms) (i j : ℕ) (k : Known) → IsTable old → i < length (shapes old) →
-    IsNumberOf (shapes old) (normal_form (form_at (shapes old) i)) j → k ≡ get_or old.known.items i k → new.nodes.items ≡ old.nodes.items → new.places.keys ≡ old.places.keys →
+    IsNumberOf (shapes old) (normal_form (form_at (shapes old) i)) j → k ≡ get_or old.known.items i k → new.nodes.items ≡ old.nodes.items →
+    new.places.keys ≡ old.places.keys →
     new.known.items ≡ slice_set old.known.items i (record k { normal = Some j }) → IsTable new
 normal_in_table old new i j k t low h q ns ps ks =
     table_noted old new i (record k { normal = Some j }) t ns ps ks (normal_noted (shapes old) (form_at (shapes old) i) k j (known_read old i k t low q) h)
 
 pub left_in_table : (old new : Forms) (i j : ℕ) (l : Letter) (k m : Known) → IsTable old → i < length (shapes old) →
-    IsNumberOf (shapes old) (derivative (form_at (shapes old) i) l) j → k ≡ get_or old.known.items i k → m ≡ left_with k l j → new.nodes.items ≡ old.nodes.items → new.places.keys ≡ old.places.keys →
+    IsNumberOf (shapes old) (derivative (form_at (shapes old) i) l) j → k ≡ get_or old.known.items i k → m ≡ left_with k l j →
+    new.nodes.items ≡ old.nodes.items → new.places.keys ≡ old.places.keys →
     new.known.items ≡ slice_set old.known.items i m → IsTable new
 left_in_table old new i j l k m t low h q e ns ps ks =
     table_noted old new i m t ns ps ks
-    (subst (λ z. IsKnown (shapes old) (form_at (shapes old) i) z) (sym e) (left_noted (shapes old) (form_at (shapes old) i) k l j (known_read old i k t low q) h))
+    (subst (λ z. IsKnown (shapes old) (form_at (shapes old) i) z) (sym e)
+    (left_noted (shapes old) (form_at (shapes old) i) k l j (known_read old i k t low q) h))

@@ -87,7 +87,9 @@ column_packed : (n k : ℕ) (h : PackedHull n) (column : List (PackedHull n)) �
 column_packed n k h column packed all = (all.0, λ i lt. subst (λ z. IsPacked (lane_count n) (lanes_of n z)) (sym (all.1 i lt)) packed)
 
 -- the start registers in the first column, and nothing in the others
-module _ (n s k : ℕ) (b : Body) (row : List (List (PackedHull n))) (h : PackedHull n) (column : List (PackedHull n)) (new : List (List (PackedHull n))) (big : 6 ≤ lane_count n) (some : 1 ≤ s) (len : length row ≡ s) (nothings : (q : ℕ) → q < s → AreAll n (nothing n) k (get_or row q [])) (set_is : new ≡ set row 0 column) (all : AreAll n h k column) (start : IsHull n (hull_of (one_hull b.start)) h) where
+module _ (n s k : ℕ) (b : Body) (row : List (List (PackedHull n))) (h : PackedHull n) (column : List (PackedHull n)) (new : List (List (PackedHull n)))
+    (big : 6 ≤ lane_count n) (some : 1 ≤ s) (len : length row ≡ s) (nothings : (q : ℕ) → q < s → AreAll n (nothing n) k (get_or row q []))
+    (set_is : new ≡ set row 0 column) (all : AreAll n h k column) (start : IsHull n (hull_of (one_hull b.start)) h) where
   first_is : get_or new 0 [] ≡ column
   first_is = ap (λ z. get_or z 0 []) set_is ∙ get_or-set_same row 0 column [] (omega (arith, some, len))
 

@@ -30,7 +30,8 @@ pub taken_as : (n s k : ℕ) (w : ℕ → ℤ) (f g : ℤ → ℕ → Hull) (a b
 taken_as n s k w f g a b same p t j lt less = p t j lt less ∙ ap (hull_of_both (hull_in n a t j)) (same (w j) t)
 
 -- a move is taken in into the column that it leads to
-module _ (n s k r : ℕ) (old : List (List (PackedHull n))) (column : List (PackedHull n)) (new : List (List (PackedHull n))) (row : IsRow n s k old) (inside : r < s) (set_is : new ≡ set old r column) where
+module _ (n s k r : ℕ) (old : List (List (PackedHull n))) (column : List (PackedHull n)) (new : List (List (PackedHull n))) (row : IsRow n s k old)
+    (inside : r < s) (set_is : new ≡ set old r column) where
   here_is : get_or new r [] ≡ column
   here_is = let len = row.len in ap (λ z. get_or z r []) set_is ∙ get_or-set_same old r column [] (omega (arith, inside, len))
 

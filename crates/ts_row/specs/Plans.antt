@@ -76,8 +76,8 @@ abbrev pub least : Formula → Formula
 least e = Join (Fold Min) e (Leaf This)
 
 -- nothing changes; D goes on; D begins anew; C becomes of D and a word, and D begins anew; C becomes of C, D and a
--- word, and D begins anew; R becomes of R and of what was found, and D begins anew; R becomes of R and what is held, and
--- both begin anew. The same becomes of E and F, which a narrow automaton hasn't.
+-- word, and D begins anew; R becomes of R and of what was found, and D begins anew; R becomes of R and what is held,
+-- and both begin anew. The same becomes of E and F, which a narrow automaton hasn't.
 abbrev pub kept_fronts : Cut
 kept_fronts = fronts (Leaf C) (Leaf E) (Leaf D) (Leaf F) (Leaf R)
 

@@ -41,7 +41,12 @@ unfolding gives
 gives_small m l twin n v h w swept small small_values small_next =
     sym (gives_closed m (λ i. compares l twin (v i) w) n h v w swept small small_values small_next)
 
-module _ {X : Type 0} (both : X → X → X) (nothing : X) (lanes : X → List ℤ) (n : ℕ) (both_lanes : (a b : X) → lanes (both a b) ≡ greater_of (lanes a) (lanes b)) (none_lanes : lanes nothing ≡ no_lanes n) (big : 6 ≤ n) (s : Sides) (fit closable : X → Type 0) (front closing : X → ℤ → X) (m : Move) (closable_none : closable nothing) (closable_both : (a b : X) → closable a → closable b → closable (both a b)) (closable_front : (h : X) (v : ℤ) → fit h → IsSmall v → closable (front h v)) (front_is : (h : X) (v : ℤ) → fit h → IsSmall v → IsFrontOf s (cut_of m) n (lanes h) v (lanes (front h v))) (closing_is : (h : X) (w : ℤ) → closable h → IsSmall w → IsClosingOf s (cut_of m) n (lanes h) w (lanes (closing h w))) where
+module _ {X : Type 0} (both : X → X → X) (nothing : X) (lanes : X → List ℤ) (n : ℕ) (both_lanes : (a b : X) → lanes (both a b) ≡ greater_of (lanes a) (lanes b))
+    (none_lanes : lanes nothing ≡ no_lanes n) (big : 6 ≤ n) (s : Sides) (fit closable : X → Type 0) (front closing : X → ℤ → X) (m : Move)
+    (closable_none : closable nothing) (closable_both : (a b : X) → closable a → closable b → closable (both a b))
+    (closable_front : (h : X) (v : ℤ) → fit h → IsSmall v → closable (front h v))
+    (front_is : (h : X) (v : ℤ) → fit h → IsSmall v → IsFrontOf s (cut_of m) n (lanes h) v (lanes (front h v)))
+    (closing_is : (h : X) (w : ℤ) → closable h → IsSmall w → IsClosingOf s (cut_of m) n (lanes h) w (lanes (closing h w))) where
   -- by what it gives
   gives_moved : ((h : X) → IsPacked n (lanes h) → both h nothing ≡ h) → (l : Letter) (twin : Bool) (count k : ℕ) (before old new : List X)
       (value next : ℕ → ℤ) →

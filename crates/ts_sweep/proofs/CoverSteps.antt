@@ -20,7 +20,8 @@ module _ {X : Type 0} (both : X → X → X) (none : X) (h : ℕ → X) where
   pub covers_all : (k n : ℕ) (all : X) → all ≡ total both none (λ i. true) h k → k ≡ n → all ≡ total both none (λ i. true) h n
   covers_all k n all is same = is ∙ ap (total both none (λ i. true) h) same
 
-module _ {X : Type 0} (both : X → X → X) (none : X) (assoc : (a b c : X) → both (both a b) c ≡ both a (both b c)) (comm : (a b : X) → both a b ≡ both b a) (idem : (a : X) → both a a ≡ a) (h : ℕ → X) where
+module _ {X : Type 0} (both : X → X → X) (none : X) (assoc : (a b c : X) → both (both a b) c ≡ both a (both b c)) (comm : (a b : X) → both a b ≡ both b a)
+    (idem : (a : X) → both a a ≡ a) (h : ℕ → X) where
   -- a hull joined to the cover changes nothing
   pub covered : (n i : ℕ) → i < n → both (total both none (λ i. true) h n) (h i) ≡ total both none (λ i. true) h n
   unfolding total

@@ -39,7 +39,8 @@ passes_is false false v w = sym (greater_is v w)
 passes_is false true v w =
     sym (ap (λ b. b || same_letter (letter_of v w) Equal) (greater_is v w) ∙ ap (λ b. int_lt w v || b) (equal_is v w) ∙ or_equal_down v w)
 
-module _ {X : Type 0} (both : X → X → X) (none : X) (lanes : X → List ℤ) (n : ℕ) (both_lanes : (a b : X) → lanes (both a b) ≡ greater_of (lanes a) (lanes b)) (none_lanes : lanes none ≡ no_lanes n) (big : 6 ≤ n) where
+module _ {X : Type 0} (both : X → X → X) (none : X) (lanes : X → List ℤ) (n : ℕ) (both_lanes : (a b : X) → lanes (both a b) ≡ greater_of (lanes a) (lanes b))
+    (none_lanes : lanes none ≡ no_lanes n) (big : 6 ≤ n) where
   -- the total of lanes stands for the total of hulls
   pub total_packed : (test : ℕ → Bool) (f : ℕ → X) (m : ℕ) → ((i : ℕ) → i < m → IsPacked n (lanes (f i))) → IsPacked n (lanes (total both none test f m))
   unfolding total
@@ -66,7 +67,10 @@ module _ {X : Type 0} (both : X → X → X) (none : X) (lanes : X → List ℤ)
         | false ↦ sym (packed_takes_none n (lanes t) big (total_packed test f m before)) ∙ ap (λ z. hull_of_both z none_hull) rest
       ]
 
-  module _ (s : Sides) (fit closable : X → Type 0) (front closing : X → ℤ → X) (cut : Cut) (closable_none : closable none) (closable_both : (a b : X) → closable a → closable b → closable (both a b)) (closable_front : (h : X) (v : ℤ) → fit h → IsSmall v → closable (front h v)) (front_is : (h : X) (v : ℤ) → fit h → IsSmall v → IsFrontOf s cut n (lanes h) v (lanes (front h v))) (closing_is : (h : X) (w : ℤ) → closable h → IsSmall w → IsClosingOf s cut n (lanes h) w (lanes (closing h w))) where
+  module _ (s : Sides) (fit closable : X → Type 0) (front closing : X → ℤ → X) (cut : Cut) (closable_none : closable none)
+      (closable_both : (a b : X) → closable a → closable b → closable (both a b)) (closable_front : (h : X) (v : ℤ) → fit h → IsSmall v → closable (front h v))
+      (front_is : (h : X) (v : ℤ) → fit h → IsSmall v → IsFrontOf s cut n (lanes h) v (lanes (front h v)))
+      (closing_is : (h : X) (w : ℤ) → closable h → IsSmall w → IsClosingOf s cut n (lanes h) w (lanes (closing h w))) where
     total_closable : (test : ℕ → Bool) (f : ℕ → X) (m : ℕ) → ((i : ℕ) → i < m → closable (f i)) → closable (total both none test f m)
     unfolding total
     total_closable test f zero h = closable_none

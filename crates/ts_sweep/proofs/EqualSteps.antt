@@ -57,7 +57,9 @@ pub record IsEqualTo {X Y : Type 0} (both : X → X → X) (taking : Y → X →
       get_or new j blank ≡ taking (get_or old j blank) (closing (equal_hull both none front hulls value (next_value j)) (next_value j))
   pub rest : (j : ℕ) → k ≤ j → get_or new j blank ≡ get_or old j blank
 
-module _ {X Y : Type 0} (both : X → X → X) (taking : Y → X → Y) (none : X) (blank : Y) (front closing : X → ℤ → X) (closes : (w : ℤ) → closing none w ≡ none) (hulls : List X) (value next_value : ℕ → ℤ) (n m : ℕ) (hulls_same : length hulls ≡ n) (rises : (i j : ℕ) → i < j → j < n → value i <ℤ value j) (next_rises : (i j : ℕ) → i < j → j < m → next_value i <ℤ next_value j) where
+module _ {X Y : Type 0} (both : X → X → X) (taking : Y → X → Y) (none : X) (blank : Y) (front closing : X → ℤ → X) (closes : (w : ℤ) → closing none w ≡ none)
+    (hulls : List X) (value next_value : ℕ → ℤ) (n m : ℕ) (hulls_same : length hulls ≡ n) (rises : (i j : ℕ) → i < j → j < n → value i <ℤ value j)
+    (next_rises : (i j : ℕ) → i < j → j < m → next_value i <ℤ next_value j) where
   pub equal_begin : (old : List Y) → IsEqualTo both taking none blank front closing hulls value next_value n m 0 0 old old
   equal_begin old = record {
     inside = omega arith;

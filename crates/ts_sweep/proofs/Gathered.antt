@@ -11,7 +11,8 @@ is_below a b h = grind arith
 last_or_not : (c n : ℕ) → c ≤ suc n → (c ≤ n) ⊎ (c ≡ suc n)
 last_or_not c n h = grind arith
 
-module _ {X : Type 0} (both : X → X → X) (none : X) (assoc : (a b c : X) → both (both a b) c ≡ both a (both b c)) (comm : (a b : X) → both a b ≡ both b a) (f : ℕ → X) where
+module _ {X : Type 0} (both : X → X → X) (none : X) (assoc : (a b c : X) → both (both a b) c ≡ both a (both b c)) (comm : (a b : X) → both a b ≡ both b a)
+    (f : ℕ → X) where
   swap : (a b c : X) → both (both a b) c ≡ both (both a c) b
   swap a b c = assoc a b c ∙ ap (both a) (comm b c) ∙ sym (assoc a c b)
 

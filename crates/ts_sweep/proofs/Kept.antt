@@ -12,7 +12,8 @@ use Rattle.ts_sweep.specs.Small.{IsSmall}
 use Rattle.ts_sweep.specs.Sweeps.{met_hull, IsTakenIn}
 use Rattle.ts_sweep.proofs.Entries.{given_is}
 
-module _ {X : Type 0} (both : X → X → X) (none : X) (lanes : X → List ℤ) (n : ℕ) (both_lanes : (a b : X) → lanes (both a b) ≡ greater_of (lanes a) (lanes b)) (none_lanes : lanes none ≡ no_lanes n) (big : 6 ≤ n) where
+module _ {X : Type 0} (both : X → X → X) (none : X) (lanes : X → List ℤ) (n : ℕ) (both_lanes : (a b : X) → lanes (both a b) ≡ greater_of (lanes a) (lanes b))
+    (none_lanes : lanes none ≡ no_lanes n) (big : 6 ≤ n) where
   pub kept_packed : ((h : X) → IsPacked n (lanes h) → both h none ≡ h) → (h : ℕ → X) (m : ℕ) (old new : List X) → IsTakenIn both none none h old new →
       ArePacked lanes none n m old → ((j : ℕ) → j < m → IsPacked n (lanes (h j))) → ArePacked lanes none n m new
   kept_packed takes h m old new taken packed gives =

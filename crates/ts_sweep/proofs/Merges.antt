@@ -73,7 +73,9 @@ pub record IsMergedTo {X Y : Type 0} (both : X → X → X) (taking : Y → X �
   pub column : IsSteppedTo taking none blank up
       (λ k. closing (passed_hull both none up twin front hulls value (next_value (place up m k))) (next_value (place up m k))) m 0 0 k old new
 
-module _ {X Y : Type 0} (both : X → X → X) (taking : Y → X → Y) (none : X) (blank : Y) (assoc : (a b c : X) → both (both a b) c ≡ both a (both b c)) (comm : (a b : X) → both a b ≡ both b a) (idem : (a : X) → both a a ≡ a) (up twin : Bool) (front closing : X → ℤ → X) (hulls : List X) (value next_value : ℕ → ℤ) (n m : ℕ) where
+module _ {X Y : Type 0} (both : X → X → X) (taking : Y → X → Y) (none : X) (blank : Y) (assoc : (a b c : X) → both (both a b) c ≡ both a (both b c))
+    (comm : (a b : X) → both a b ≡ both b a) (idem : (a : X) → both a a ≡ a) (up twin : Bool) (front closing : X → ℤ → X) (hulls : List X)
+    (value next_value : ℕ → ℤ) (n m : ℕ) where
   pub merge_begin : (run : X) (old : List Y) → run ≡ none → IsMergedTo both taking none blank up twin front closing hulls value next_value n m 0 0 run old old
   unfolding gathered
   merge_begin run old is = record {

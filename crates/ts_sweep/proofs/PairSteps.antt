@@ -88,7 +88,8 @@ moved_some s m n xs zs x y c e d f r alone big width suits p some this next ec e
           ∙ ap (seen_hull s) (sym (after_is m h x y true (some_unpacked n xs big is_some))),
     )
 
-module _ {X : Type 0} (both : X → X → X) (nothing : X) (lanes : X → List ℤ) (n : ℕ) (both_lanes : (a b : X) → lanes (both a b) ≡ greater_of (lanes a) (lanes b)) (none_lanes : lanes nothing ≡ no_lanes n) (big : 6 ≤ n) where
+module _ {X : Type 0} (both : X → X → X) (nothing : X) (lanes : X → List ℤ) (n : ℕ) (both_lanes : (a b : X) → lanes (both a b) ≡ greater_of (lanes a) (lanes b))
+    (none_lanes : lanes nothing ≡ no_lanes n) (big : 6 ≤ n) where
   -- a hull that one more joins
   pub with_joined : (a h z : X) (k : Hull) → IsPacked n (lanes a) → IsPacked n (lanes h) → unpacked (lanes h) ≡ k → z ≡ both a h →
       IsPacked n (lanes z) × (unpacked (lanes z) ≡ hull_of_both (unpacked (lanes a)) k)
@@ -132,7 +133,8 @@ same_or i j = go (nat_eq i j) refl
     go true e = inl (eqb-true i j e)
     go false e = inr (eqb-false i j e)
 
-module _ {X : Type 0} (both : X → X → X) (nothing : X) (lanes : X → List ℤ) (n : ℕ) (both_lanes : (a b : X) → lanes (both a b) ≡ greater_of (lanes a) (lanes b)) (none_lanes : lanes nothing ≡ no_lanes n) (big : 6 ≤ n) (s : Sides) (m : Move) (l : Letter) (twin : Bool) (v : ℕ → ℤ) (before : List X) where
+module _ {X : Type 0} (both : X → X → X) (nothing : X) (lanes : X → List ℤ) (n : ℕ) (both_lanes : (a b : X) → lanes (both a b) ≡ greater_of (lanes a) (lanes b))
+    (none_lanes : lanes nothing ≡ no_lanes n) (big : 6 ≤ n) (s : Sides) (m : Move) (l : Letter) (twin : Bool) (v : ℕ → ℤ) (before : List X) where
   pub given_begun : (w : ℤ) (all : X) → all ≡ nothing → IsGiven s lanes nothing n m l twin 0 v before w all
   given_begun w all e = record {
     packed = inl (ap lanes e ∙ none_lanes);

@@ -71,7 +71,11 @@ module _ (n : ℕ) (big : 6 ≤ n) where
       fit (get_or (column s q count row) i nothing)
   column_fit fit s q count row fits i lt = subst fit (sym (column_is s q count row i lt)) (fits i lt)
 
-  module _ (fit closable : PackedHull n → Type 0) (front closing : PackedHull n → ℤ → PackedHull n) (cut : Cut) (closable_none : closable nothing) (closable_both : (a b : PackedHull n) → closable a → closable b → closable (both a b)) (closable_front : (h : PackedHull n) (v : ℤ) → fit h → IsSmall v → closable (front h v)) (front_is : (h : PackedHull n) (v : ℤ) → fit h → IsSmall v → IsFrontOf BothEnds cut n h.at v (lanes (front h v))) (closing_is : (h : PackedHull n) (w : ℤ) → closable h → IsSmall w → IsClosingOf BothEnds cut n h.at w (lanes (closing h w))) where
+  module _ (fit closable : PackedHull n → Type 0) (front closing : PackedHull n → ℤ → PackedHull n) (cut : Cut) (closable_none : closable nothing)
+      (closable_both : (a b : PackedHull n) → closable a → closable b → closable (both a b))
+      (closable_front : (h : PackedHull n) (v : ℤ) → fit h → IsSmall v → closable (front h v))
+      (front_is : (h : PackedHull n) (v : ℤ) → fit h → IsSmall v → IsFrontOf BothEnds cut n h.at v (lanes (front h v)))
+      (closing_is : (h : PackedHull n) (w : ℤ) → closable h → IsSmall w → IsClosingOf BothEnds cut n h.at w (lanes (closing h w))) where
     pub row_is : (m : Move) (l : Letter) (twin : Bool) (s q count r t k : ℕ) (before old new : List Hull) (value next : ℕ → ℤ) (g : ℕ → Hull) →
         cut_of m ≡ cut → all_swept (cut_of m) ≡ true → m.next ≡ r → r < t → length old ≡ k * t → AllTakeNone old →
         ((p : ℕ) → IsPackable n (get_or before p none_hull)) → ((i : ℕ) → i < count → fit (packed_at n s q before i)) →

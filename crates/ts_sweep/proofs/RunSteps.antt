@@ -122,7 +122,9 @@ pub record IsAt {X Y : Type 0} (both : X → X → X) (taking : Y → X → Y) (
   pub column : IsSteppedTo taking none blank up
       (λ k. closing (gathered both none up (λ i. front (get_or hulls i none) (value i)) n (min (k + a - b) n)) (next_value (place up m k))) m a b t old new
 
-module _ {X Y : Type 0} (both : X → X → X) (taking : Y → X → Y) (none : X) (blank : Y) (assoc : (a b c : X) → both (both a b) c ≡ both a (both b c)) (comm : (a b : X) → both a b ≡ both b a) (idem : (a : X) → both a a ≡ a) (up twin : Bool) (front closing : X → ℤ → X) (hulls : List X) (value next_value : ℕ → ℤ) (n m a b : ℕ) where
+module _ {X Y : Type 0} (both : X → X → X) (taking : Y → X → Y) (none : X) (blank : Y) (assoc : (a b c : X) → both (both a b) c ≡ both a (both b c))
+    (comm : (a b : X) → both a b ≡ both b a) (idem : (a : X) → both a a ≡ a) (up twin : Bool) (front closing : X → ℤ → X) (hulls : List X)
+    (value next_value : ℕ → ℤ) (n m a b : ℕ) where
   pub at_begin : ((w : ℤ) → closing none w ≡ none) → (run : X) (old : List Y) → run ≡ none →
       IsAt both taking none blank up front closing hulls value next_value n m a b 0 run old old
   at_begin closes run old is = record {

@@ -54,7 +54,12 @@ row_taken unpack nothing h m l s n g old new leads long canonical empty taken be
         ∙ sym (canonical (j * s + t)) ∙ sym (ap (λ e. hull_of_both (get_or old (j * s + t) none) (cond e (g j) none)) is)
 
 -- what a sweep gives to a next value is what the move gives to it from all values that compare with it as the letter says
-module _ {X : Type 0} (both : X → X → X) (nothing : X) (lanes : X → List ℤ) (n : ℕ) (big : 6 ≤ n) (both_lanes : (a b : X) → lanes (both a b) ≡ greater_of (lanes a) (lanes b)) (none_lanes : lanes nothing ≡ no_lanes n) (fit closable : X → Type 0) (front closing : X → ℤ → X) (m : Move) (closable_none : closable nothing) (closable_both : (a b : X) → closable a → closable b → closable (both a b)) (closable_front : (h : X) (v : ℤ) → fit h → IsSmall v → closable (front h v)) (front_is : (h : X) (v : ℤ) → fit h → IsSmall v → IsFrontOf BothEnds (cut_of m) n (lanes h) v (lanes (front h v))) (closing_is : (h : X) (w : ℤ) → closable h → IsSmall w → IsClosingOf BothEnds (cut_of m) n (lanes h) w (lanes (closing h w))) where
+module _ {X : Type 0} (both : X → X → X) (nothing : X) (lanes : X → List ℤ) (n : ℕ) (big : 6 ≤ n)
+    (both_lanes : (a b : X) → lanes (both a b) ≡ greater_of (lanes a) (lanes b)) (none_lanes : lanes nothing ≡ no_lanes n) (fit closable : X → Type 0)
+    (front closing : X → ℤ → X) (m : Move) (closable_none : closable nothing) (closable_both : (a b : X) → closable a → closable b → closable (both a b))
+    (closable_front : (h : X) (v : ℤ) → fit h → IsSmall v → closable (front h v))
+    (front_is : (h : X) (v : ℤ) → fit h → IsSmall v → IsFrontOf BothEnds (cut_of m) n (lanes h) v (lanes (front h v)))
+    (closing_is : (h : X) (w : ℤ) → closable h → IsSmall w → IsClosingOf BothEnds (cut_of m) n (lanes h) w (lanes (closing h w))) where
   pub gives_entry : (l : Letter) (twin : Bool) (count : ℕ) (hulls : List X) (h : ℕ → Hull) (value : ℕ → ℤ) (w : ℤ) → length hulls ≡ count →
       ((i : ℕ) → i < count → lanes (get_or hulls i nothing) ≡ lanes_of n (h i)) → all_swept (cut_of m) ≡ true →
       ((i : ℕ) → i < count → IsPackable n (h i)) → ((i : ℕ) → i < count → fit (get_or hulls i nothing)) →

@@ -382,7 +382,8 @@ read_max BothEnds a b = refl
 read_max UpperEnds a b = refl
 read_max LowerEnds a b = refl
 
-module _ {X : Type 0} (both : X → X → X) (lanes : X → List ℤ) (n : ℕ) (both_lanes : (a b : X) → lanes (both a b) ≡ greater_of (lanes a) (lanes b)) where
+module _ {X : Type 0} (both : X → X → X) (lanes : X → List ℤ) (n : ℕ)
+    (both_lanes : (a b : X) → lanes (both a b) ≡ greater_of (lanes a) (lanes b)) where
   pub packed_both : (a b : X) → IsPacked n (lanes a) → IsPacked n (lanes b) → IsPacked n (lanes (both a b))
   packed_both a b p q = subst (IsPacked n) (sym (both_lanes a b)) (joined_packed n (lanes a) (lanes b) p q)
 
@@ -474,191 +475,201 @@ or_false false false false false e h = (refl, refl, refl, refl, h)
 abbrev pub all_kept : Sides → (Name → Ends) → Name → Ends
 all_kept s e k = kept_ends s (e k)
 
-module _ {X : Type 0} (s : Sides) (lanes : X → List ℤ) (replaced : X → Name → Ends → X) (n : ℕ) (none : X) (none_lanes : lanes none ≡ no_lanes n) (replaced_lanes : (h : X) (k : Name) (e : Ends) → lanes (replaced h k e) ≡ with_ends_in (lanes h) (place n k) (kept_ends s e)) where
-  one_lanes : (h : X) (zs : List ℤ) (k : Name) (e : Ends) → lanes h ≡ zs →
-      lanes (replaced h k e) ≡ with_ends_in zs (place n k) (kept_ends s e)
-  one_lanes h zs k e is = replaced_lanes h k e ∙ ap (λ ys. with_ends_in ys (place n k) (kept_ends s e)) is
+module _ {X : Type 0} (s : Sides) (lanes : X → List ℤ) (replaced : X → Name → Ends → X) (n : ℕ) (none : X)
+    (none_lanes : lanes none ≡ no_lanes n)
+    (replaced_lanes : (h : X) (k : Name) (e : Ends) → lanes (replaced h k e) ≡ with_ends_in (lanes h) (place n k) (kept_ends s e))
+  where
+    one_lanes : (h : X) (zs : List ℤ) (k : Name) (e : Ends) → lanes h ≡ zs →
+        lanes (replaced h k e) ≡ with_ends_in zs (place n k) (kept_ends s e)
+    one_lanes h zs k e is = replaced_lanes h k e ∙ ap (λ ys. with_ends_in ys (place n k) (kept_ends s e)) is
 
-  pub all_lanes : (h : X) (e : Name → Ends) → lanes (replaced_all replaced h e) ≡ with_all n (lanes h) (all_kept s e)
-  all_lanes h e =
-      one_lanes _ _ R (e R) (one_lanes _ _ F (e F)
-      (one_lanes _ _ D (e D) (one_lanes _ _ E (e E) (replaced_lanes h C (e C)))))
+    pub all_lanes : (h : X) (e : Name → Ends) → lanes (replaced_all replaced h e) ≡ with_all n (lanes h) (all_kept s e)
+    all_lanes h e =
+        one_lanes _ _ R (e R) (one_lanes _ _ F (e F)
+        (one_lanes _ _ D (e D) (one_lanes _ _ E (e E) (replaced_lanes h C (e C)))))
 
-  chosen_some : (h : X) (e : Name → Ends) → 6 ≤ n → AreSome n (lanes h) →
-      lanes (cond (some_lanes (lanes h)) (replaced_all replaced h e) none) ≡ with_all n (lanes h) (all_kept s e)
-  chosen_some h e big some =
-      ap (λ b. lanes (cond b (replaced_all replaced h e) none)) (first_is n (lanes h) big some) ∙ all_lanes h e
+    chosen_some : (h : X) (e : Name → Ends) → 6 ≤ n → AreSome n (lanes h) →
+        lanes (cond (some_lanes (lanes h)) (replaced_all replaced h e) none) ≡ with_all n (lanes h) (all_kept s e)
+    chosen_some h e big some =
+        ap (λ b. lanes (cond b (replaced_all replaced h e) none)) (first_is n (lanes h) big some) ∙ all_lanes h e
 
-  chosen_none : (h : X) (x : X) → lanes h ≡ no_lanes n → lanes (cond (some_lanes (lanes h)) x none) ≡ no_lanes n
-  chosen_none h x e = ap (λ b. lanes (cond b x none)) (ap some_lanes e ∙ none_is n) ∙ none_lanes
+    chosen_none : (h : X) (x : X) → lanes h ≡ no_lanes n → lanes (cond (some_lanes (lanes h)) x none) ≡ no_lanes n
+    chosen_none h x e = ap (λ b. lanes (cond b x none)) (ap some_lanes e ∙ none_is n) ∙ none_lanes
 
-  module _ (alone : (s ≡ BothEnds) ⊎ (is_wide n ≡ false)) (fit : Name → List ℤ → Type 0) (k : Cut) (front : Name → List ℤ → Ends) (v : ℤ) (packs : (m : Name) (xs : List ℤ) (h : Hull) → AreEndsOf s xs h → IsSplitFor s (of_name k m) → fit m xs → IsEndsOf s (front m xs) (front_span (of_name k m) h v)) (suits : IsCutFor s k) where
-    -- the front of each register of the width
-    begun_packs : (xs : List ℤ) → 6 ≤ n → AreSome n xs → ((m : Name) → IfPlaced (place n m) (fit m (as_read s xs))) →
-        (m : Name) →
-        IsPackAt (place n m) (all_kept s (begun_by (is_wide n) front (as_read s xs)) m)
-        (seen_at s m (front_span (of_name (of_width (is_wide n) k) m) (unpacked xs) v))
-    begun_packs xs big some fits C =
-        kept_packs s _ _ (packs C (as_read s xs) (unpacked xs) (read_are s n xs big some) suits.0 (fits C))
-    begun_packs xs big some fits E = go (is_wide n) refl (fits E)
-      where
-        go : (b : Bool) → is_wide n ≡ b → IfPlaced (place_in b E) (fit E (as_read s xs)) →
-            IsPackAt (place_in b E) (kept_ends s (beside b (front E (as_read s xs))))
-            (front_span (rest_split b k.e) (unpacked xs) v)
-        go true w f =
-            let both = narrow_or_both s (is_wide n) alone w in
-            both_kept s _ _ both (packs E (as_read s xs) (unpacked xs) (read_are s n xs big some)
-            (both_suits s k.e both) f)
-        go false w f = refl
-    begun_packs xs big some fits D =
-        kept_packs s _ _ (packs D (as_read s xs) (unpacked xs) (read_are s n xs big some) suits.1 (fits D))
-    begun_packs xs big some fits F = go (is_wide n) refl (fits F)
-      where
-        go : (b : Bool) → is_wide n ≡ b → IfPlaced (place_in b F) (fit F (as_read s xs)) →
-            IsPackAt (place_in b F) (kept_ends s (beside b (front F (as_read s xs))))
-            (front_span (rest_split b k.f) (unpacked xs) v)
-        go true w f =
-            let both = narrow_or_both s (is_wide n) alone w in
-            both_kept s _ _ both (packs F (as_read s xs) (unpacked xs) (read_are s n xs big some)
-            (both_suits s k.f both) f)
-        go false w f = refl
-    begun_packs xs big some fits R =
-        kept_packs s _ _ (packs R (as_read s xs) (unpacked xs) (read_are s n xs big some) suits.2 (fits R))
+    module _ (alone : (s ≡ BothEnds) ⊎ (is_wide n ≡ false)) (fit : Name → List ℤ → Type 0) (k : Cut)
+        (front : Name → List ℤ → Ends) (v : ℤ)
+        (packs : (m : Name) (xs : List ℤ) (h : Hull) → AreEndsOf s xs h → IsSplitFor s (of_name k m) → fit m xs → IsEndsOf s (front m xs) (front_span (of_name k m) h v))
+        (suits : IsCutFor s k) where
+      -- the front of each register of the width
+      begun_packs : (xs : List ℤ) → 6 ≤ n → AreSome n xs → ((m : Name) → IfPlaced (place n m) (fit m (as_read s xs))) →
+          (m : Name) →
+          IsPackAt (place n m) (all_kept s (begun_by (is_wide n) front (as_read s xs)) m)
+          (seen_at s m (front_span (of_name (of_width (is_wide n) k) m) (unpacked xs) v))
+      begun_packs xs big some fits C =
+          kept_packs s _ _ (packs C (as_read s xs) (unpacked xs) (read_are s n xs big some) suits.0 (fits C))
+      begun_packs xs big some fits E = go (is_wide n) refl (fits E)
+        where
+          go : (b : Bool) → is_wide n ≡ b → IfPlaced (place_in b E) (fit E (as_read s xs)) →
+              IsPackAt (place_in b E) (kept_ends s (beside b (front E (as_read s xs))))
+              (front_span (rest_split b k.e) (unpacked xs) v)
+          go true w f =
+              let both = narrow_or_both s (is_wide n) alone w in
+              both_kept s _ _ both (packs E (as_read s xs) (unpacked xs) (read_are s n xs big some)
+              (both_suits s k.e both) f)
+          go false w f = refl
+      begun_packs xs big some fits D =
+          kept_packs s _ _ (packs D (as_read s xs) (unpacked xs) (read_are s n xs big some) suits.1 (fits D))
+      begun_packs xs big some fits F = go (is_wide n) refl (fits F)
+        where
+          go : (b : Bool) → is_wide n ≡ b → IfPlaced (place_in b F) (fit F (as_read s xs)) →
+              IsPackAt (place_in b F) (kept_ends s (beside b (front F (as_read s xs))))
+              (front_span (rest_split b k.f) (unpacked xs) v)
+          go true w f =
+              let both = narrow_or_both s (is_wide n) alone w in
+              both_kept s _ _ both (packs F (as_read s xs) (unpacked xs) (read_are s n xs big some)
+              (both_suits s k.f both) f)
+          go false w f = refl
+      begun_packs xs big some fits R =
+          kept_packs s _ _ (packs R (as_read s xs) (unpacked xs) (read_are s n xs big some) suits.2 (fits R))
 
-    pub parts_front_is : (h : X) → 6 ≤ n → IsFitFor s n fit (lanes h) →
-        IsFrontOf s (of_width (is_wide n) k) n (lanes h) v
-        (lanes (cond (some_lanes (lanes h))
-        (replaced_all replaced h (begun_by (is_wide n) front (as_read s (lanes h)))) none))
-    parts_front_is h big (inl e) =
-        subst (IsFrontOf s (of_width (is_wide n) k) n (lanes h) v) (sym (chosen_none h _ e))
-        (subst (λ zs. IsFrontOf s (of_width (is_wide n) k) n zs v (no_lanes n)) (sym e)
-        (nothing_front s (of_width (is_wide n) k) n v big))
-    parts_front_is h big (inr p) =
-        let e = begun_by (is_wide n) front (as_read s (lanes h)) in
-        subst (IsFrontOf s (of_width (is_wide n) k) n (lanes h) v)
-        (sym (chosen_some h e big p.1))
-        (some_front s (of_width (is_wide n) k) n (lanes h) v (all_kept s e) big p.1
-        (begun_packs (lanes h) big p.1 p.2))
+      pub parts_front_is : (h : X) → 6 ≤ n → IsFitFor s n fit (lanes h) →
+          IsFrontOf s (of_width (is_wide n) k) n (lanes h) v
+          (lanes (cond (some_lanes (lanes h))
+          (replaced_all replaced h (begun_by (is_wide n) front (as_read s (lanes h)))) none))
+      parts_front_is h big (inl e) =
+          subst (IsFrontOf s (of_width (is_wide n) k) n (lanes h) v) (sym (chosen_none h _ e))
+          (subst (λ zs. IsFrontOf s (of_width (is_wide n) k) n zs v (no_lanes n)) (sym e)
+          (nothing_front s (of_width (is_wide n) k) n v big))
+      parts_front_is h big (inr p) =
+          let e = begun_by (is_wide n) front (as_read s (lanes h)) in
+          subst (IsFrontOf s (of_width (is_wide n) k) n (lanes h) v)
+          (sym (chosen_some h e big p.1))
+          (some_front s (of_width (is_wide n) k) n (lanes h) v (all_kept s e) big p.1
+          (begun_packs (lanes h) big p.1 p.2))
 
-    -- the ends that are kept are read again as they are
-    closable_at : (can : Name → Ends → Type 0) → ((m : Name) (e : Ends) → can m e → can m (read_ends s e)) →
-        (o : Option ℕ)
-        (m : Name) (ys : List ℤ) (e : Ends) → HasEnds o ys (kept_ends s e) → IfPlaced o (can m e) →
-        IfPlaced o (can m (ends_in (as_read s ys) o))
-    closable_at can reads None m ys e here c = tt
-    closable_at can reads (Some p) m ys e here c =
-        subst (can m) (sym (read_in s ys (Some p) ∙ ap (read_ends s) here ∙ read_kept s e)) (reads m e c)
+      -- the ends that are kept are read again as they are
+      closable_at : (can : Name → Ends → Type 0) → ((m : Name) (e : Ends) → can m e → can m (read_ends s e)) →
+          (o : Option ℕ)
+          (m : Name) (ys : List ℤ) (e : Ends) → HasEnds o ys (kept_ends s e) → IfPlaced o (can m e) →
+          IfPlaced o (can m (ends_in (as_read s ys) o))
+      closable_at can reads None m ys e here c = tt
+      closable_at can reads (Some p) m ys e here c =
+          subst (can m) (sym (read_in s ys (Some p) ∙ ap (read_ends s) here ∙ read_kept s e)) (reads m e c)
 
-    begun_closable : (can : Name → Ends → Type 0) → ((m : Name) (xs : List ℤ) → fit m xs → can m (front m xs)) →
-        (xs : List ℤ) →
-        ((m : Name) → IfPlaced (place n m) (fit m xs)) → (m : Name) →
-        IfPlaced (place n m) (can m (begun_by (is_wide n) front xs m))
-    begun_closable can keeps xs fits C = keeps C xs (fits C)
-    begun_closable can keeps xs fits E = go (is_wide n) (fits E)
-      where
-        go : (b : Bool) → IfPlaced (place_in b E) (fit E xs) → IfPlaced (place_in b E) (can E (beside b (front E xs)))
-        go true f = keeps E xs f
-        go false f = tt
-    begun_closable can keeps xs fits D = keeps D xs (fits D)
-    begun_closable can keeps xs fits F = go (is_wide n) (fits F)
-      where
-        go : (b : Bool) → IfPlaced (place_in b F) (fit F xs) → IfPlaced (place_in b F) (can F (beside b (front F xs)))
-        go true f = keeps F xs f
-        go false f = tt
-    begun_closable can keeps xs fits R = keeps R xs (fits R)
+      begun_closable : (can : Name → Ends → Type 0) → ((m : Name) (xs : List ℤ) → fit m xs → can m (front m xs)) →
+          (xs : List ℤ) →
+          ((m : Name) → IfPlaced (place n m) (fit m xs)) → (m : Name) →
+          IfPlaced (place n m) (can m (begun_by (is_wide n) front xs m))
+      begun_closable can keeps xs fits C = keeps C xs (fits C)
+      begun_closable can keeps xs fits E = go (is_wide n) (fits E)
+        where
+          go : (b : Bool) → IfPlaced (place_in b E) (fit E xs) → IfPlaced (place_in b E) (can E (beside b (front E xs)))
+          go true f = keeps E xs f
+          go false f = tt
+      begun_closable can keeps xs fits D = keeps D xs (fits D)
+      begun_closable can keeps xs fits F = go (is_wide n) (fits F)
+        where
+          go : (b : Bool) → IfPlaced (place_in b F) (fit F xs) → IfPlaced (place_in b F) (can F (beside b (front F xs)))
+          go true f = keeps F xs f
+          go false f = tt
+      begun_closable can keeps xs fits R = keeps R xs (fits R)
 
-    pub parts_front : (can : Name → Ends → Type 0) → ((m : Name) (xs : List ℤ) → fit m xs → can m (front m xs)) →
-        ((m : Name) (e : Ends) → can m e → can m (read_ends s e)) →
-        (h : X) → IsFitFor s n fit (lanes h) →
-        IsClosableBy s n can
-        (lanes (cond (some_lanes (lanes h))
-        (replaced_all replaced h (begun_by (is_wide n) front (as_read s (lanes h)))) none))
-    parts_front can keeps reads h (inl e) = inl (chosen_none h _ e)
-    parts_front can keeps reads h (inr p) =
-        let xs = lanes h in
-        let e = begun_by (is_wide n) front (as_read s xs) in
-        let whole = of_width (is_wide n) k in
-        subst (IsClosableBy s n can) (sym (chosen_some h e p.0 p.1))
-        (inr (
-          p.0,
-          all_packed n xs (all_kept s e) (λ m. seen_at s m (front_span (of_name whole m) (unpacked xs) v)) p.0 p.1
-              (begun_packs xs p.0 p.1 p.2),
-          λ m. closable_at can reads (place n m) m (with_all n xs (all_kept s e)) (e m)
-              (all_here n xs (all_kept s e) p.0 p.1.len m)
-              (begun_closable can keeps (as_read s xs) p.2 m),
-        ))
+      pub parts_front : (can : Name → Ends → Type 0) → ((m : Name) (xs : List ℤ) → fit m xs → can m (front m xs)) →
+          ((m : Name) (e : Ends) → can m e → can m (read_ends s e)) →
+          (h : X) → IsFitFor s n fit (lanes h) →
+          IsClosableBy s n can
+          (lanes (cond (some_lanes (lanes h))
+          (replaced_all replaced h (begun_by (is_wide n) front (as_read s (lanes h)))) none))
+      parts_front can keeps reads h (inl e) = inl (chosen_none h _ e)
+      parts_front can keeps reads h (inr p) =
+          let xs = lanes h in
+          let e = begun_by (is_wide n) front (as_read s xs) in
+          let whole = of_width (is_wide n) k in
+          subst (IsClosableBy s n can) (sym (chosen_some h e p.0 p.1))
+          (inr (
+            p.0,
+            all_packed n xs (all_kept s e) (λ m. seen_at s m (front_span (of_name whole m) (unpacked xs) v)) p.0 p.1
+                (begun_packs xs p.0 p.1 p.2),
+            λ m. closable_at can reads (place n m) m (with_all n xs (all_kept s e)) (e m)
+                (all_here n xs (all_kept s e) p.0 p.1.len m)
+                (begun_closable can keeps (as_read s xs) p.2 m),
+          ))
 
-  module _ (alone : (s ≡ BothEnds) ⊎ (is_wide n ≡ false)) (shown : (h : X) → 6 ≤ n → IsPacked n (lanes h) → seen_hull s (unpacked (lanes h)) ≡ unpacked (lanes h)) (can : Name → Ends → Type 0) (k : Cut) (tail : Name → Bool) (close : Name → Ends → Ends) (w : ℤ) (packs : (m : Name) (e : Ends) (t : Span) → IsEndsOf s e t → can m e → IsEndsOf s (close m e) (closed_span (of_name k m) t w)) (same : (m : Name) → tail m ≡ false → (t : Span) → closed_span (of_name k m) t w ≡ t) where
-    closed_packs : (xs : List ℤ) → 6 ≤ n → AreSome n xs →
-        ((m : Name) → IfPlaced (place n m) (can m (ends_in (as_read s xs) (place n m)))) → (m : Name) →
-        IsPackAt (place n m) (all_kept s (closed_by n close (as_read s xs)) m)
-        (seen_at s m (closed_span (of_name (of_width (is_wide n) k) m) (name_span xs m) w))
-    closed_packs xs big some cans C =
-        kept_packs s _ _ (packs C (ends_in (as_read s xs) (place n C)) (name_span xs C) (read_name s n xs C big some)
-        (cans C))
-    closed_packs xs big some cans E = go (is_wide n) refl (read_name s n xs E big some) (cans E)
-      where
-        go : (b : Bool) → is_wide n ≡ b → IsEndsOf s (ends_in (as_read s xs) (place_in b E)) (name_span xs E) →
-            IfPlaced (place_in b E) (can E (ends_in (as_read s xs) (place_in b E))) →
-            IsPackAt (place_in b E) (kept_ends s (beside b (close E (ends_in (as_read s xs) (place_in b E)))))
-            (closed_span (rest_split b k.e) (name_span xs E) w)
-        go true t p c =
-            both_kept s _ _ (narrow_or_both s (is_wide n) alone t)
-            (packs E (ends_in (as_read s xs) (place_in true E)) (name_span xs E) p c)
-        go false t p c = e_rests n xs big some t
-    closed_packs xs big some cans D =
-        kept_packs s _ _ (packs D (ends_in (as_read s xs) (place n D)) (name_span xs D) (read_name s n xs D big some)
-        (cans D))
-    closed_packs xs big some cans F = go (is_wide n) refl (read_name s n xs F big some) (cans F)
-      where
-        go : (b : Bool) → is_wide n ≡ b → IsEndsOf s (ends_in (as_read s xs) (place_in b F)) (name_span xs F) →
-            IfPlaced (place_in b F) (can F (ends_in (as_read s xs) (place_in b F))) →
-            IsPackAt (place_in b F) (kept_ends s (beside b (close F (ends_in (as_read s xs) (place_in b F)))))
-            (closed_span (rest_split b k.f) (name_span xs F) w)
-        go true t p c =
-            both_kept s _ _ (narrow_or_both s (is_wide n) alone t)
-            (packs F (ends_in (as_read s xs) (place_in true F)) (name_span xs F) p c)
-        go false t p c = f_rests n xs big some t
-    closed_packs xs big some cans R =
-        kept_packs s _ _ (packs R (ends_in (as_read s xs) (place n R)) (name_span xs R) (read_name s n xs R big some)
-        (cans R))
+    module _ (alone : (s ≡ BothEnds) ⊎ (is_wide n ≡ false))
+        (shown : (h : X) → 6 ≤ n → IsPacked n (lanes h) → seen_hull s (unpacked (lanes h)) ≡ unpacked (lanes h))
+        (can : Name → Ends → Type 0) (k : Cut) (tail : Name → Bool) (close : Name → Ends → Ends) (w : ℤ)
+        (packs : (m : Name) (e : Ends) (t : Span) → IsEndsOf s e t → can m e → IsEndsOf s (close m e) (closed_span (of_name k m) t w))
+        (same : (m : Name) → tail m ≡ false → (t : Span) → closed_span (of_name k m) t w ≡ t) where
+      closed_packs : (xs : List ℤ) → 6 ≤ n → AreSome n xs →
+          ((m : Name) → IfPlaced (place n m) (can m (ends_in (as_read s xs) (place n m)))) → (m : Name) →
+          IsPackAt (place n m) (all_kept s (closed_by n close (as_read s xs)) m)
+          (seen_at s m (closed_span (of_name (of_width (is_wide n) k) m) (name_span xs m) w))
+      closed_packs xs big some cans C =
+          kept_packs s _ _ (packs C (ends_in (as_read s xs) (place n C)) (name_span xs C) (read_name s n xs C big some)
+          (cans C))
+      closed_packs xs big some cans E = go (is_wide n) refl (read_name s n xs E big some) (cans E)
+        where
+          go : (b : Bool) → is_wide n ≡ b → IsEndsOf s (ends_in (as_read s xs) (place_in b E)) (name_span xs E) →
+              IfPlaced (place_in b E) (can E (ends_in (as_read s xs) (place_in b E))) →
+              IsPackAt (place_in b E) (kept_ends s (beside b (close E (ends_in (as_read s xs) (place_in b E)))))
+              (closed_span (rest_split b k.e) (name_span xs E) w)
+          go true t p c =
+              both_kept s _ _ (narrow_or_both s (is_wide n) alone t)
+              (packs E (ends_in (as_read s xs) (place_in true E)) (name_span xs E) p c)
+          go false t p c = e_rests n xs big some t
+      closed_packs xs big some cans D =
+          kept_packs s _ _ (packs D (ends_in (as_read s xs) (place n D)) (name_span xs D) (read_name s n xs D big some)
+          (cans D))
+      closed_packs xs big some cans F = go (is_wide n) refl (read_name s n xs F big some) (cans F)
+        where
+          go : (b : Bool) → is_wide n ≡ b → IsEndsOf s (ends_in (as_read s xs) (place_in b F)) (name_span xs F) →
+              IfPlaced (place_in b F) (can F (ends_in (as_read s xs) (place_in b F))) →
+              IsPackAt (place_in b F) (kept_ends s (beside b (close F (ends_in (as_read s xs) (place_in b F)))))
+              (closed_span (rest_split b k.f) (name_span xs F) w)
+          go true t p c =
+              both_kept s _ _ (narrow_or_both s (is_wide n) alone t)
+              (packs F (ends_in (as_read s xs) (place_in true F)) (name_span xs F) p c)
+          go false t p c = f_rests n xs big some t
+      closed_packs xs big some cans R =
+          kept_packs s _ _ (packs R (ends_in (as_read s xs) (place n R)) (name_span xs R) (read_name s n xs R big some)
+          (cans R))
 
-    closed_same : (xs : List ℤ) → any_tail tail ≡ false →
-        unpacked xs ≡ closed_hull (of_width (is_wide n) k) (unpacked xs) w
-    unfolding closed_hull unpacked
-    closed_same xs e =
-        let no = or_false (tail C) (tail E) (tail D) (tail F) (tail R) e in
-        sym (same_hull (same C no.0 (name_span xs C))
-        (rest_closed (is_wide n) k.e (name_span xs E) w (λ t. same E no.1 (name_span xs E)))
-        (same D no.2 (name_span xs D)) (rest_closed (is_wide n) k.f (name_span xs F) w
-        (λ t. same F no.3 (name_span xs F))) (same R no.4 (name_span xs R)))
+      closed_same : (xs : List ℤ) → any_tail tail ≡ false →
+          unpacked xs ≡ closed_hull (of_width (is_wide n) k) (unpacked xs) w
+      unfolding closed_hull unpacked
+      closed_same xs e =
+          let no = or_false (tail C) (tail E) (tail D) (tail F) (tail R) e in
+          sym (same_hull (same C no.0 (name_span xs C))
+          (rest_closed (is_wide n) k.e (name_span xs E) w (λ t. same E no.1 (name_span xs E)))
+          (same D no.2 (name_span xs D)) (rest_closed (is_wide n) k.f (name_span xs F) w
+          (λ t. same F no.3 (name_span xs F))) (same R no.4 (name_span xs R)))
 
-    pub parts_closing_is : (h : X) → 6 ≤ n → IsClosableBy s n can (lanes h) →
-        IsClosingOf s (of_width (is_wide n) k) n (lanes h) w
-        (lanes (cond (any_tail tail) (cond (some_lanes (lanes h))
-        (replaced_all replaced h (closed_by n close (as_read s (lanes h)))) none) h))
-    parts_closing_is h big can_close = go (any_tail tail) refl can_close
-      where
-        whole : Cut
-        whole = of_width (is_wide n) k
+      pub parts_closing_is : (h : X) → 6 ≤ n → IsClosableBy s n can (lanes h) →
+          IsClosingOf s (of_width (is_wide n) k) n (lanes h) w
+          (lanes (cond (any_tail tail) (cond (some_lanes (lanes h))
+          (replaced_all replaced h (closed_by n close (as_read s (lanes h)))) none) h))
+      parts_closing_is h big can_close = go (any_tail tail) refl can_close
+        where
+          whole : Cut
+          whole = of_width (is_wide n) k
 
-        xs : List ℤ
-        xs = lanes h
+          xs : List ℤ
+          xs = lanes h
 
-        new : X
-        new = replaced_all replaced h (closed_by n close (as_read s xs))
+          new : X
+          new = replaced_all replaced h (closed_by n close (as_read s xs))
 
-        go : (t : Bool) → any_tail tail ≡ t → IsClosableBy s n can xs →
-            IsClosingOf s whole n xs w (lanes (cond t (cond (some_lanes xs) new none) h))
-        go true e (inl f) =
-            subst (IsClosingOf s whole n xs w) (sym (chosen_none h new f))
-            (subst (λ zs. IsClosingOf s whole n zs w (no_lanes n)) (sym f) (nothing_closing s whole n w big))
-        go true e (inr p) =
-            subst (IsClosingOf s whole n xs w) (sym (chosen_some h (closed_by n close (as_read s xs)) big p.1))
-            (some_closing s whole n xs w (all_kept s (closed_by n close (as_read s xs))) big p.1
-            (closed_packs xs big p.1 p.2))
-        go false e (inl f) = subst (λ zs. IsClosingOf s whole n zs w zs) (sym f) (nothing_closing s whole n w big)
-        go false e (inr p) = (inr p.1, sym (shown h big (inr p.1)) ∙ ap (seen_hull s) (closed_same xs e))
+          go : (t : Bool) → any_tail tail ≡ t → IsClosableBy s n can xs →
+              IsClosingOf s whole n xs w (lanes (cond t (cond (some_lanes xs) new none) h))
+          go true e (inl f) =
+              subst (IsClosingOf s whole n xs w) (sym (chosen_none h new f))
+              (subst (λ zs. IsClosingOf s whole n zs w (no_lanes n)) (sym f) (nothing_closing s whole n w big))
+          go true e (inr p) =
+              subst (IsClosingOf s whole n xs w) (sym (chosen_some h (closed_by n close (as_read s xs)) big p.1))
+              (some_closing s whole n xs w (all_kept s (closed_by n close (as_read s xs))) big p.1
+              (closed_packs xs big p.1 p.2))
+          go false e (inl f) = subst (λ zs. IsClosingOf s whole n zs w zs) (sym f) (nothing_closing s whole n w big)
+          go false e (inr p) = (inr p.1, sym (shown h big (inr p.1)) ∙ ap (seen_hull s) (closed_same xs e))
 
 -- what is placed for E and F where lanes are wide
 pub wide_of : (wide : Bool) (P : Type 0) → IfPlaced (place_in wide E) P → wide ≡ true → P

@@ -175,11 +175,16 @@ book_added p old new form h low none f e ks w x =
           (nexts_in i y as_nexts (get_push old.nexts.items all_unread y i (ap (λ z. slice_get z i) (sym x) ∙ q)));
     }
   where
-    once_in : (i j : ℕ) → (i < length (residuals_of old)) ⊎ (i ≡ length (residuals_of old)) → (j < length (residuals_of old)) ⊎ (j ≡ length (residuals_of old)) →
-        shape_at (residuals_of old ++ form_at (shapes_in old.forms) form ∷ []) i ≡ shape_at (residuals_of old ++ form_at (shapes_in old.forms) form ∷ []) j → i ≡ j
-    once_in i j (inl a) (inl b) q = h.once i j a b (sym (shape_old (residuals_of old) (form_at (shapes_in old.forms) form ∷ []) i a) ∙ q ∙ shape_old (residuals_of old) (form_at (shapes_in old.forms) form ∷ []) j b)
-    once_in i j (inl a) (inr b) q = absurd (none i a (sym (shape_old (residuals_of old) (form_at (shapes_in old.forms) form ∷ []) i a) ∙ q ∙ shape_new (residuals_of old) (form_at (shapes_in old.forms) form) j b))
-    once_in i j (inr a) (inl b) q = absurd (none j b (sym (shape_old (residuals_of old) (form_at (shapes_in old.forms) form ∷ []) j b) ∙ sym q ∙ shape_new (residuals_of old) (form_at (shapes_in old.forms) form) i a))
+    once_in : (i j : ℕ) → (i < length (residuals_of old)) ⊎ (i ≡ length (residuals_of old)) →
+        (j < length (residuals_of old)) ⊎ (j ≡ length (residuals_of old)) →
+        shape_at (residuals_of old ++ form_at (shapes_in old.forms) form ∷ []) i ≡ shape_at (residuals_of old ++ form_at (shapes_in old.forms) form ∷ []) j →
+        i ≡ j
+    once_in i j (inl a) (inl b) q = h.once i j a b (sym (shape_old (residuals_of old) (form_at (shapes_in old.forms) form ∷ []) i a) ∙ q
+        ∙ shape_old (residuals_of old) (form_at (shapes_in old.forms) form ∷ []) j b)
+    once_in i j (inl a) (inr b) q = absurd (none i a (sym (shape_old (residuals_of old) (form_at (shapes_in old.forms) form ∷ []) i a) ∙ q
+        ∙ shape_new (residuals_of old) (form_at (shapes_in old.forms) form) j b))
+    once_in i j (inr a) (inl b) q = absurd (none j b (sym (shape_old (residuals_of old) (form_at (shapes_in old.forms) form ∷ []) j b) ∙ sym q
+        ∙ shape_new (residuals_of old) (form_at (shapes_in old.forms) form) i a))
     once_in i j (inr a) (inr b) q = a ∙ sym b
 
     nexts_in : (i : ℕ) (y : Nexts) → length old.nexts.items ≡ length (residuals_of old) →
@@ -187,10 +192,13 @@ book_added p old new form h low none f e ks w x =
         NextsSay (residuals_of old ++ form_at (shapes_in old.forms) form ∷ []) (shape_at (residuals_of old ++ form_at (shapes_in old.forms) form ∷ []) i) y
     nexts_in i y s (inl a) =
         let b = a.0 in
-        subst (λ z. NextsSay (residuals_of old ++ form_at (shapes_in old.forms) form ∷ []) z y) (sym (shape_old (residuals_of old) (form_at (shapes_in old.forms) form ∷ []) i (omega (arith, b, s))))
-        (λ l. next_grows (residuals_of old) (form_at (shapes_in old.forms) form ∷ []) (residual (shape_at (residuals_of old) i) l) (next_on l y) (h.nexts i y a.1 l))
+        subst (λ z. NextsSay (residuals_of old ++ form_at (shapes_in old.forms) form ∷ []) z y)
+        (sym (shape_old (residuals_of old) (form_at (shapes_in old.forms) form ∷ []) i (omega (arith, b, s))))
+        (λ l. next_grows (residuals_of old) (form_at (shapes_in old.forms) form ∷ []) (residual (shape_at (residuals_of old) i) l) (next_on l y)
+        (h.nexts i y a.1 l))
     nexts_in i y s (inr a) =
-        subst (λ z. NextsSay (residuals_of old ++ form_at (shapes_in old.forms) form ∷ []) (shape_at (residuals_of old ++ form_at (shapes_in old.forms) form ∷ []) i) z) a.1
+        subst (λ z. NextsSay (residuals_of old ++ form_at (shapes_in old.forms) form ∷ [])
+        (shape_at (residuals_of old ++ form_at (shapes_in old.forms) form ∷ []) i) z) a.1
         (unread_says (residuals_of old ++ form_at (shapes_in old.forms) form ∷ []) (shape_at (residuals_of old ++ form_at (shapes_in old.forms) form ∷ []) i))
 
 pub found_added : (old new : Book) (form j : ℕ) → new.forms ≡ old.forms → new.residuals.items ≡ old.residuals.items ++ form ∷ [] →
@@ -257,7 +265,8 @@ IsStored ks k j = (x : ℕ) × (slice_get ks j ≡ Some x) × (nat_eq k x ≡ tr
 pub number_new_book : (p : Shape) (old new : Book) (keys : List ℕ) (form : ℕ) (is_new : Bool) → IsBook p old → form < length (shapes_in old.forms) →
     is_new ≡ not (list_any (λ w. nat_eq form w) old.places.keys) → keys ≡ insert_key nat_eq old.places.keys form → is_new ≡ true → new.places.keys ≡ keys →
     new.forms ≡ old.forms → new.residuals.items ≡ old.residuals.items ++ form ∷ [] →
-    new.words.items ≡ old.words.items ++ words_of (form_at (shapes_in old.forms) form) ∷ [] → new.nexts.items ≡ old.nexts.items ++ all_unread ∷ [] → IsBook p new
+    new.words.items ≡ old.words.items ++ words_of (form_at (shapes_in old.forms) form) ∷ [] → new.nexts.items ≡ old.nexts.items ++ all_unread ∷ [] →
+    IsBook p new
 number_new_book p old new keys form is_new h low a e t ks f r w x =
     let added = added_key old.places.keys keys form is_new a e t in
     book_added p old new form h low (number_nowhere p old form h low (λ i q. added.1 i (ap (λ z. slice_get z i) h.places ∙ q))) f r
@@ -294,7 +303,8 @@ number_old_found p old new keys form place is_new h a e t s f r =
 -- an answer that is kept
 
 pub book_noted : (p : Shape) (old new : Book) (i : ℕ) (l : Letter) (x : Next) → IsBook p old → new.forms ≡ old.forms →
-    new.residuals.items ≡ old.residuals.items → new.places ≡ old.places → new.words.items ≡ old.words.items → IfSome (slice_get old.nexts.items i) (λ n. new.nexts.items ≡ slice_set old.nexts.items i (next_with n l x)) →
+    new.residuals.items ≡ old.residuals.items → new.places ≡ old.places → new.words.items ≡ old.words.items →
+    IfSome (slice_get old.nexts.items i) (λ n. new.nexts.items ≡ slice_set old.nexts.items i (next_with n l x)) →
     i < length (residuals_of old) → NextSays (residuals_of old) (residual (shape_at (residuals_of old) i) l) x → IsBook p new
 book_noted p old new i l x h f e ks w s q k =
     let as_nexts = h.as_many_nexts in
@@ -376,7 +386,10 @@ pub read_some_book : (p : Shape) (b0 b1 b2 : Book) (i j : ℕ) (l : Letter) (d :
 read_some_book p b0 b1 b2 i j l d h f low e t g r ks w n =
     let long = found_longer (residuals_of b0) (residuals_of b1) d j f in
     let is : d ≡ residual (shape_at (residuals_of b1) i) l = e ∙ ap (λ z. residual z l) (sym (found_old (residuals_of b0) (residuals_of b1) d j i f low)) in
-    book_noted p b1 b2 i l (Number j) h g r ks w n (omega (arith, low, long)) (ap (λ z. has_word z) (sym is) ∙ sym t, subst (λ z. IsNumberOf (residuals_of b1) z j) is f.1)
+    book_noted p b1 b2 i l (Number j) h g r ks w n (omega (arith, low, long)) (
+      ap (λ z. has_word z) (sym is) ∙ sym t,
+      subst (λ z. IsNumberOf (residuals_of b1) z j) is f.1,
+    )
 
 pub read_some_after : (b0 b1 b2 : Book) (i j : ℕ) (l : Letter) (d : Shape) → IsFound (residuals_of b0) (residuals_of b1) d j →
     d ≡ residual (shape_at (residuals_of b0) i) l → true ≡ has_word d → b2.forms ≡ b1.forms → b2.residuals.items ≡ b1.residuals.items →

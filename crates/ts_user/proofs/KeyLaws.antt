@@ -87,7 +87,8 @@ abbrev pub lists_of : List (Vec ℕ Global) → List (List ℕ)
 lists_of ks = map (λ v. v.items) ks
 
 pub placed_new : (ks new : List (Vec ℕ Global)) (v : Vec ℕ Global) (is_new : Bool) →
-    is_new ≡ not (list_any (λ w. pointwise nat_eq v.items w.items) ks) → new ≡ insert_key list_eq ks v → is_new ≡ true → IsPlaced (lists_of ks) (lists_of new) v.items None
+    is_new ≡ not (list_any (λ w. pointwise nat_eq v.items w.items) ks) → new ≡ insert_key list_eq ks v → is_new ≡ true →
+    IsPlaced (lists_of ks) (lists_of new) v.items None
 placed_new ks new v is_new a e q = go (list_any (λ w. pointwise nat_eq v.items w.items) ks) refl
   where
     go : (b : Bool) → list_any (λ w. pointwise nat_eq v.items w.items) ks ≡ b → IsPlaced (lists_of ks) (lists_of new) v.items None

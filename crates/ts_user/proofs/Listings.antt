@@ -145,7 +145,8 @@ pub record IsLook (s : Subject Shape) (p : Shape) (t : Listing) (k : ℕ) (l : L
   pub few_entries : length to.live.items ≤ length t.configurations.items
 
 pub looked : (s : Subject Shape) (p : Shape) (t : Listing) (k : ℕ) (l : Letter) (book : Book) (here to : Configuration) (ok : Bool) → IsListed s p t →
-    k < length t.configurations.items → IsTaken s (signatures_of t) (place (signature_at (signatures_of t) k ++ l ∷ [])) → here ≡ get_or t.configurations.items k here →
+    k < length t.configurations.items → IsTaken s (signatures_of t) (place (signature_at (signatures_of t) k ++ l ∷ [])) →
+    here ≡ get_or t.configurations.items k here →
     IsBook p book → IsStep s (residuals_of t.book) (residuals_of book) here l to ok → IsLook s p t k l book to ok
 looked s p t k l book here to ok h q a e b st =
     let is : value_of (residuals_of t.book) here ≡ reached s (signature_at (signatures_of t) k) =
@@ -238,7 +239,8 @@ pub old_taken : (s : Subject Shape) (p : Shape) (t : Listing) (k : ℕ) (l : Let
 old_taken s p t k l book to ok h q i x e a =
     let size = (h.listed).size in
     let low = slice_get_within t.configurations.items i x e in
-    take_old s (signatures_of t) (place (signature_at (signatures_of t) k ++ l ∷ [])) (signature_at (signatures_of t) k) l h.taken refl (sym h.told ∙ q) i (subst (λ z. i < z) size low)
+    take_old s (signatures_of t) (place (signature_at (signatures_of t) k ++ l ∷ [])) (signature_at (signatures_of t) k) l h.taken refl (sym h.told ∙ q) i
+    (subst (λ z. i < z) size low)
     (sym ((h.listed).values i x e) ∙ sym (grown_value (residuals_of t.book) (residuals_of book) x h.grows ((h.listed).listed i x e))
     ∙ same_value (residuals_of book) x to a ∙ h.value)
 
@@ -261,7 +263,8 @@ pub new_words : (t new : Listing) (w : List Letter) → signatures_of new ≡ si
 new_words t new w e k q = ap (λ z. signature_at z k) e ∙ at_old (signatures_of t) w k q
 
 pub new_taken : (s : Subject Shape) (p : Shape) (t new : Listing) (k : ℕ) (l : Letter) (book : Book) (to : Configuration) (ok : Bool) →
-    IsLook s p t k l book to ok → ok ≡ true → IsNew t.configurations.items to → signatures_of new ≡ signatures_of t ++ (signature_at (signatures_of t) k ++ l ∷ []) ∷ [] →
+    IsLook s p t k l book to ok → ok ≡ true → IsNew t.configurations.items to → signatures_of new
+    ≡ signatures_of t ++ (signature_at (signatures_of t) k ++ l ∷ []) ∷ [] →
     IsTaken s (signatures_of new) (place (signature_at (signatures_of t) k ++ l ∷ []) + 1)
 new_taken s p t new k l book to ok h q none e =
     subst (λ z. IsTaken s z (place (signature_at (signatures_of t) k ++ l ∷ []) + 1)) (sym e)
@@ -298,7 +301,8 @@ new_listed s p t new k l book to ok h eb ec ew few ks =
         ⊎ ((j ≡ length t.configurations.items) × (to ≡ y)) → length y.live.items ≤ j
     entries_in j y (inl a) = (h.listed).few_entries j y a.1
     entries_in j y (inr a) =
-        let own : length y.live.items ≤ length t.configurations.items = subst (λ (z : Configuration). length z.live.items ≤ length t.configurations.items) a.1 h.few_entries in
+        let own : length y.live.items ≤ length t.configurations.items = subst
+        (λ (z : Configuration). length z.live.items ≤ length t.configurations.items) a.1 h.few_entries in
         let last = a.0 in omega (arith, own, last)
 
     value_in : (j : ℕ) (y : Configuration) → ((j < length t.configurations.items) × (slice_get t.configurations.items j ≡ Some y))
@@ -359,8 +363,10 @@ ready_taken s p t k h q r =
     let size = h.size in
     subst (λ z. IsTaken s (signatures_of t) z) (sym (place_push (signature_at (signatures_of t) k) Less)) (r.more (subst (λ z. k < z) size q))
 
-pub taken_next : (s : Subject Shape) (old new : Listing) (k : ℕ) (l m : Letter) → digit m ≡ digit l + 1 → signature_at (signatures_of new) k ≡ signature_at (signatures_of old) k →
-    IsTaken s (signatures_of new) (place (signature_at (signatures_of old) k ++ l ∷ []) + 1) → IsTaken s (signatures_of new) (place (signature_at (signatures_of new) k ++ m ∷ []))
+pub taken_next : (s : Subject Shape) (old new : Listing) (k : ℕ) (l m : Letter) → digit m ≡ digit l + 1 →
+    signature_at (signatures_of new) k ≡ signature_at (signatures_of old) k →
+    IsTaken s (signatures_of new) (place (signature_at (signatures_of old) k ++ l ∷ []) + 1) →
+    IsTaken s (signatures_of new) (place (signature_at (signatures_of new) k ++ m ∷ []))
 taken_next s old new k l m d e h =
     let a = place_push (signature_at (signatures_of old) k) l in
     let b = place_push (signature_at (signatures_of new) k) m in
@@ -369,7 +375,8 @@ taken_next s old new k l m d e h =
     subst (λ z. IsTaken s (signatures_of new) z) n h
 
 pub taken_ready : (s : Subject Shape) (p : Shape) (old new : Listing) (k : ℕ) → IsListed s p new → k < length new.configurations.items →
-    signature_at (signatures_of new) k ≡ signature_at (signatures_of old) k → IsTaken s (signatures_of new) (place (signature_at (signatures_of old) k ++ Greater ∷ []) + 1) →
+    signature_at (signatures_of new) k ≡ signature_at (signatures_of old) k →
+    IsTaken s (signatures_of new) (place (signature_at (signatures_of old) k ++ Greater ∷ []) + 1) →
     IsReady s (signatures_of new) (k + 1)
 taken_ready s p old new k g q e h =
     let a = place_push (signature_at (signatures_of old) k) Greater in

@@ -143,7 +143,8 @@ entries_known n [] h = refl
 entries_known n (e ∷ es) h = both (nat_lt e.residual n) (list_all (λ (e : Entry (Unit {0}) ℕ Tag). nat_lt e.residual n) (map (λ e. plain_live e) es))
     (lt-ltb e.residual n h.0) (entries_known n es h.1)
 
-all_known : (n : ℕ) (xs : List Configuration) → ((i : ℕ) (x : Configuration) → slice_get xs i ≡ Some x → AllByRecursion (λ i. i < n) (live_numbers x.live.items)) →
+all_known : (n : ℕ) (xs : List Configuration) → ((i : ℕ) (x : Configuration) → slice_get xs i ≡ Some x →
+    AllByRecursion (λ i. i < n) (live_numbers x.live.items)) →
     list_all (λ (x : PlainConfiguration ℕ). list_all (λ (e : Entry (Unit {0}) ℕ Tag). nat_lt e.residual n) x.live) (map (λ x. plain_configuration x) xs) ≡ true
 all_known n [] h = refl
 all_known n (x ∷ xs) h =
@@ -164,17 +165,21 @@ first_word s ws h =
 
 is_of : (p : Pattern) (rs : List Shape) (xs : List Configuration) → first_passes (λ r. same_shape r (normal_form (shape_of p.regex))) rs ≡ true →
     first_passes (λ x. is_blank x) (map (λ x. plain_configuration x) xs) ≡ true →
-    list_all (λ (x : PlainConfiguration ℕ). list_all (λ (e : Entry (Unit {0}) ℕ Tag). nat_lt e.residual (length rs)) x.live) (map (λ x. plain_configuration x) xs) ≡ true →
+    list_all (λ (x : PlainConfiguration ℕ). list_all (λ (e : Entry (Unit {0}) ℕ Tag). nat_lt e.residual (length rs)) x.live)
+    (map (λ x. plain_configuration x) xs) ≡ true →
     (let x : PlainPlan = record { residuals = rs; configurations = map (λ x. plain_configuration x) xs } in is_plan_of (shape_of p.regex) x) ≡ true
 is_of p rs xs a b c =
     both (first_passes (λ r. same_shape r (normal_form (shape_of p.regex))) rs)
     (first_passes (λ x. is_blank x) (map (λ x. plain_configuration x) xs)
-    && list_all (λ (x : PlainConfiguration ℕ). list_all (λ (e : Entry (Unit {0}) ℕ Tag). nat_lt e.residual (length rs)) x.live) (map (λ x. plain_configuration x) xs)) a
+    && list_all (λ (x : PlainConfiguration ℕ). list_all (λ (e : Entry (Unit {0}) ℕ Tag). nat_lt e.residual (length rs)) x.live)
+    (map (λ x. plain_configuration x) xs)) a
     (both (first_passes (λ x. is_blank x) (map (λ x. plain_configuration x) xs))
-    (list_all (λ (x : PlainConfiguration ℕ). list_all (λ (e : Entry (Unit {0}) ℕ Tag). nat_lt e.residual (length rs)) x.live) (map (λ x. plain_configuration x) xs)) b c)
+    (list_all (λ (x : PlainConfiguration ℕ). list_all (λ (e : Entry (Unit {0}) ℕ Tag). nat_lt e.residual (length rs)) x.live)
+    (map (λ x. plain_configuration x) xs)) b c)
 
 pub plan_fits : (rows : List Row) (p : Pattern) (plan : Plan) (t : Listing) → IsListed (unplanned_of rows p) (shape_of p.regex) t →
-    IsWhole (unplanned_of rows p) (signatures_of t) → map (λ s. shape_of s) plan.residuals.items ≡ residuals_of t.book → plan.configurations.items ≡ t.configurations.items →
+    IsWhole (unplanned_of rows p) (signatures_of t) → map (λ s. shape_of s) plan.residuals.items ≡ residuals_of t.book →
+    plan.configurations.items ≡ t.configurations.items →
     is_plan_of (shape_of p.regex) (plain_plan plan) ≡ true
 plan_fits rows p plan t h k r c =
     let rs : List Shape = residuals_of t.book in
@@ -197,13 +202,15 @@ plan_few rows p plan t h r =
 -- over rows that were lent
 
 pub closed_lent : (lent rows : List Row) (p : Pattern) (plan : Plan) (t : Listing) → lent ≡ rows → IsListed (unplanned_of lent p) (shape_of p.regex) t →
-    IsWhole (unplanned_of lent p) (signatures_of t) → map (λ s. shape_of s) plan.residuals.items ≡ residuals_of t.book → plan.configurations.items ≡ t.configurations.items →
+    IsWhole (unplanned_of lent p) (signatures_of t) → map (λ s. shape_of s) plan.residuals.items ≡ residuals_of t.book →
+    plan.configurations.items ≡ t.configurations.items →
     IsClosed (against rows p plan)
 closed_lent lent rows p plan t e h k r c =
     subst (λ z. IsClosed (against z p plan)) e (plan_closed lent p plan (signatures_of t) k (values_are lent p plan t h r c))
 
 pub listing_lent : (lent rows : List Row) (p : Pattern) (plan : Plan) (t : Listing) → lent ≡ rows → IsListed (unplanned_of lent p) (shape_of p.regex) t →
-    IsWhole (unplanned_of lent p) (signatures_of t) → map (λ s. shape_of s) plan.residuals.items ≡ residuals_of t.book → plan.configurations.items ≡ t.configurations.items →
+    IsWhole (unplanned_of lent p) (signatures_of t) → map (λ s. shape_of s) plan.residuals.items ≡ residuals_of t.book →
+    plan.configurations.items ≡ t.configurations.items →
     IsListing (unplanned_of rows p) (values_of rows p plan)
 listing_lent lent rows p plan t e h k r c =
     subst (λ z. IsListing (unplanned_of z p) (values_of z p plan)) e (plan_listing lent p plan t h k (values_are lent p plan t h r c))

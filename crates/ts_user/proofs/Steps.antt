@@ -124,7 +124,8 @@ added_none old new l e es h a =
       grows = grows_not old;
       one_residual = omega arith;
       one_entry = omega arith;
-      value = ap (λ z. cond (z && not (list_any (λ (k : Entry (Unit {0}) Shape Tag). same_shape k.residual (residual (shape_at old e.residual) l)) (values old es)))
+      value =
+          ap (λ z. cond (z && not (list_any (λ (k : Entry (Unit {0}) Shape Tag). same_shape k.residual (residual (shape_at old e.residual) l)) (values old es)))
           (values old es ++ left_of old l e ∷ []) (values old es)) (sym a.0);
       listed = h;
       numbered = λ n q. q;
@@ -142,7 +143,8 @@ with_value old new l e es j w g is h once =
     go (list_any (λ (k : Live). k.residual == j) es) ∙ ap (λ z. cond (true && not z) (values new es ++ left_of old l e ∷ []) (values new es)) any
     ∙ ap (λ z. cond (z && not (list_any (λ (k : Entry (Unit {0}) Shape Tag). same_shape k.residual d) (values old es))) (values new es ++ left_of old l e ∷ [])
     (values new es)) (sym w)
-    ∙ ap (λ z. cond (has_word d && not (list_any (λ (k : Entry (Unit {0}) Shape Tag). same_shape k.residual d) (values old es))) (z ++ left_of old l e ∷ []) z) same
+    ∙ ap (λ z. cond (has_word d && not (list_any (λ (k : Entry (Unit {0}) Shape Tag). same_shape k.residual d) (values old es)))
+    (z ++ left_of old l e ∷ []) z) same
   where
     push : values new (es ++ record { residual = j; tag = e.tag } ∷ []) ≡ values new es ++ left_of old l e ∷ []
     push =
@@ -198,7 +200,8 @@ added_some old new l e es after j h a once q =
     subst (λ z. IsAdded old new l e es z) (sym q)
     (record {
       grows = g;
-      one_residual = ⊎_elim (λ b. let s = ap (λ z. length z) b in omega (arith, s)) (λ b. let s = ap (λ z. length z) b.0 ∙ push_length old d in omega (arith, s)) f.0;
+      one_residual =
+          ⊎_elim (λ b. let s = ap (λ z. length z) b in omega (arith, s)) (λ b. let s = ap (λ z. length z) b.0 ∙ push_length old d in omega (arith, s)) f.0;
       one_entry = one_in (list_any (λ (k : Live). k.residual == j) es);
       value = with_value old new l e es j a.0 g f.1 h once;
       listed = listed_in (list_any (λ (k : Live). k.residual == j) es) (f.1).0 (listed_grow old new es g h);
@@ -258,7 +261,8 @@ values_push rs es e =
     ap (λ z. map (λ e. entry_value rs e) z) (map-append (λ e. plain_live e) es (e ∷ []))
     ∙ map-append (λ e. entry_value rs e) (plain_lives es) (plain_live e ∷ [])
 
-pub left_more : (old mid new : List Shape) (l : Letter) (live : List Live) (i : ℕ) (d : Live) (before after : List Live) → AreListed old live → i < length live →
+pub left_more : (old mid new : List Shape) (l : Letter) (live : List Live) (i : ℕ) (d : Live) (before after : List Live) → AreListed old live →
+    i < length live →
     IsLeftTo old mid l (take i live) before → IsAdded mid new l (get_or live i d) before after → IsLeftTo old new l (take (i + 1) live) after
 left_more old mid new l live i d before after h q k a =
     let e : Live = get_or live i d in
@@ -334,7 +338,8 @@ numbers_more es i d old new g q h n =
 
 -- the whole step
 
-free_start : (rs : List Shape) (whole : Shape) (b : ℕ) (es : List Live) → list_all (λ (e : Live). not (is_ind e.tag)) es ≡ no_ind (with_start tt whole b (values rs es))
+free_start : (rs : List Shape) (whole : Shape) (b : ℕ) (es : List Live) → list_all (λ (e : Live). not (is_ind e.tag)) es
+    ≡ no_ind (with_start tt whole b (values rs es))
 free_start rs whole b [] = first b
   where
     first : (b : ℕ) → true ≡ not (is_ind (first_tag b)) && true

@@ -124,7 +124,8 @@ take_new s ws n u l h e a none =
 between : (s : Subject Shape) (ws : List (List Letter)) (n k : ℕ) → IsTaken s ws n → k < length ws → n ≡ 3 * place (signature_at ws k) + 4 →
     (v : List Letter) (m : Letter) → (i : ℕ) → i < length ws → i ≤ k → reached s (signature_at ws i) ≡ reached s v →
     (agrees s (reached s v) m ≡ true)
-    × ((j : ℕ) × (j < length ws) × (place (signature_at ws j) ≤ 3 * place (signature_at ws i) + digit m) × (reached s (signature_at ws j) ≡ reached s (v ++ m ∷ [])))
+    × ((j : ℕ) × (j < length ws) × (place (signature_at ws j) ≤ 3 * place (signature_at ws i) + digit m) ×
+    (reached s (signature_at ws j) ≡ reached s (v ++ m ∷ [])))
 between s ws n k h q e v m i p o r =
     let p1 : place (signature_at ws i) ≤ place (signature_at ws k) = up (at_most i k (omega (arith, o))) in
     let b = digit_bounds m in
@@ -167,8 +168,10 @@ jump s ws n k h q e =
       pass = λ v m p. passes v m p rise here (split (place (v ++ m ∷ [])) n);
     }
   where
-    front : (v : List Letter) (m : Letter) → place (v ++ m ∷ []) < 3 * place (signature_at ws (k + 1)) + 1 → place (signature_at ws k) < place (signature_at ws (k + 1)) →
-        place (signature_at ws (k + 1)) < n → (i : ℕ) × (i < length ws) × (i ≤ k) × (place (signature_at ws i) ≤ place v) × (reached s (signature_at ws i) ≡ reached s v)
+    front : (v : List Letter) (m : Letter) → place (v ++ m ∷ []) < 3 * place (signature_at ws (k + 1)) + 1 →
+        place (signature_at ws k) < place (signature_at ws (k + 1)) →
+        place (signature_at ws (k + 1)) < n → (i : ℕ) × (i < length ws) × (i ≤ k) × (place (signature_at ws i) ≤ place v) ×
+        (reached s (signature_at ws i) ≡ reached s v)
     front v m p rise here =
         let t = place_push v m in let b = digit_bounds m in
         let before : place v < place (signature_at ws (k + 1)) = omega (arith, t, b, p) in
@@ -176,7 +179,8 @@ jump s ws n k h q e =
         let low = c.2 in
         (c.0, c.1, up_to s ws n k h q c.0 c.1 (omega (arith, low, before)), c.2, c.3)
 
-    passes : (v : List Letter) (m : Letter) → place (v ++ m ∷ []) < 3 * place (signature_at ws (k + 1)) + 1 → place (signature_at ws k) < place (signature_at ws (k + 1)) →
+    passes : (v : List Letter) (m : Letter) → place (v ++ m ∷ []) < 3 * place (signature_at ws (k + 1)) + 1 →
+        place (signature_at ws k) < place (signature_at ws (k + 1)) →
         place (signature_at ws (k + 1)) < n → (place (v ++ m ∷ []) < n) ⊎ (n ≤ place (v ++ m ∷ [])) → agrees s (reached s v) m ≡ true
     passes v m p rise here (inl a) = h.pass v m a
     passes v m p rise here (inr a) =
@@ -218,7 +222,8 @@ finish s ws n k h q e =
       rises = h.rises;
       each = h.each;
       covers = λ w. covered s ws n k h q e (length w) w (omega arith);
-      pass = λ v m. let c = covered s ws n k h q e (length v) v (omega arith) in (between s ws n k h (omega (arith, q)) e v m c.0 c.1 (let o = c.1 in omega (arith, o, q)) c.3).0;
+      pass = λ v m. let c = covered s ws n k h q e (length v) v (omega arith) in
+          (between s ws n k h (omega (arith, q)) e v m c.0 c.1 (let o = c.1 in omega (arith, o, q)) c.3).0;
     }
 
 -- the steps on the three letters of signature k were taken

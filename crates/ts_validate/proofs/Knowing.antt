@@ -50,7 +50,8 @@ added_more f g is js xs i k r q h x p e =
           ∙ ap (λ z. map (λ s. shape_of s) z) (sym (take_more xs i r q));
     }
 
-pub added_all : (f : Forms) (is : List ℕ) (xs : List Regex) (i : ℕ) → length xs ≤ i → AreAdded (take i xs) f is → forms_at (shapes f) is ≡ map (λ s. shape_of s) xs
+pub added_all : (f : Forms) (is : List ℕ) (xs : List Regex) (i : ℕ) → length xs ≤ i → AreAdded (take i xs) f is →
+    forms_at (shapes f) is ≡ map (λ s. shape_of s) xs
 added_all f is xs i q h = h.residuals ∙ ap (λ z. map (λ s. shape_of s) z) (take_all i xs q)
 
 -- what a letter leaves is put there
@@ -104,7 +105,8 @@ pub record AreKnown (xs : List Regex) (x : Residuals) (i : ℕ) (table : List Kn
   pub residuals : residuals_of x ≡ map (λ s. shape_of s) xs
   pub known : table ≡ map (λ r. known_of (map (λ s. shape_of s) xs) r) (take i (map (λ s. shape_of s) xs))
 
-pub known_none : (xs : List Regex) (x : Residuals) (table : List Knowledge) → IsSound x → residuals_of x ≡ map (λ s. shape_of s) xs → table ≡ [] → AreKnown xs x 0 table
+pub known_none : (xs : List Regex) (x : Residuals) (table : List Knowledge) → IsSound x → residuals_of x ≡ map (λ s. shape_of s) xs → table ≡ [] →
+    AreKnown xs x 0 table
 known_none xs x table s e t = record { sound = s; residuals = e; known = t }
 
 pub known_more : (xs : List Regex) (x y : Residuals) (i : ℕ) (k : Knowledge) (old new : List Knowledge) → i < length xs → AreKnown xs x i old → IsSound y →

@@ -105,7 +105,8 @@ no_word_left : (rs : List Shape) (r d : Shape) (l : Letter) (n : ℕ) → d ≡ 
 no_word_left rs r d l n e t q =
     q ∙ sym (ap (λ b. if b then number_of rs (residual r l) else length rs) (ap (λ z. has_word z) (sym e) ∙ sym t))
 
-pub next_some : (x y : Residuals) (i k n : ℕ) (l : Letter) → residuals_of y ≡ residuals_of x → form_at (shapes y.forms) k ≡ residual (form_at (residuals_of x) i) l →
+pub next_some : (x y : Residuals) (i k n : ℕ) (l : Letter) → residuals_of y ≡ residuals_of x → form_at (shapes y.forms) k
+    ≡ residual (form_at (residuals_of x) i) l →
     true ≡ has_word (form_at (shapes y.forms) k) → n ≡ number_of (residuals_of y) (form_at (shapes y.forms) k) →
     n ≡ next_number (residuals_of x) (form_at (residuals_of x) i) l
 next_some x y i k n l s e t q =

@@ -67,7 +67,8 @@ forward_of_made (Some h) f b p each e = ap (λ z. (unwrap_or z p).forward) (sym 
 pub forward_is : (m : Machine) (p : Pair) → pair_of m ≡ Some p → p.forward ≡ forward_of m
 forward_is m p e = forward_of_made m.half (λ h. pair m.forward h.reverse (table_view h.table)) m.forward p (λ h. refl) e
 
-module _ (m : Machine) (xs : List ℤ) (i j : ℕ) (v : ℤ) (l : i < length xs) (e : j ≡ length xs - suc i) (few : length xs ≤ most_cells) (cells : AreCellValues xs) (c : IsCellValue v) where
+module _ (m : Machine) (xs : List ℤ) (i j : ℕ) (v : ℤ) (l : i < length xs) (e : j ≡ length xs - suc i) (few : length xs ≤ most_cells) (cells : AreCellValues xs)
+    (c : IsCellValue v) where
   cut : List ℤ
   cut = take i xs ++ v ∷ drop (suc i) xs
 

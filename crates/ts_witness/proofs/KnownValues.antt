@@ -59,7 +59,8 @@ entry_there xs i e is below = slice_get-get_or xs i e below ∙ ap Some (sym is)
 
 -- what the runs have beside a place tells the value with each value there
 
-module _ (m : Machine) (y : List ℤ) (i : ℕ) (s : Sides) (inside : i < length y) (few : length y ≤ most_cells) (cells : AreCellValues y) (sides : AreSides m y i s) where
+module _ (m : Machine) (y : List ℤ) (i : ℕ) (s : Sides) (inside : i < length y) (few : length y ≤ most_cells) (cells : AreCellValues y)
+    (sides : AreSides m y i s) where
   value_is : (p : Pair) → pair_of m ≡ Some p → (v : ℤ) → IsCellValue v → value_between p (length y) i s v ≡ answer (forward_of m) (set y i v)
   value_is p is v c =
       glued_with m y i (length y - suc i) v inside refl few cells c p is (arrived p.forward i s.left v) (arrived p.reverse (length y - suc i) s.right v)

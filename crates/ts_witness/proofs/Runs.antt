@@ -99,7 +99,8 @@ inside b cells states known i r n l =
     let c = r.count in
     (omega (arith, k, f, c), omega (arith, k, f))
 
-module _ (b : Body) (cells : List ℤ) (states : List At) (known i : ℕ) (r : IsRun b cells states known) (n : i ≡ 0 → ⊥) (l : i ≤ known) (a : At) (e : a ≡ get_or states (i - 1) a) where
+module _ (b : Body) (cells : List ℤ) (states : List At) (known i : ℕ) (r : IsRun b cells states known) (n : i ≡ 0 → ⊥) (l : i ≤ known) (a : At)
+    (e : a ≡ get_or states (i - 1) a) where
   state_there : slice_get states (i - 1) ≡ Some a
   state_there = found states (i - 1) a e (inside b cells states known i r n l).0
 

@@ -211,8 +211,9 @@ fn is_between(v: Option<i64>, low: i64, high: i64) -> bool
 }
 
 /// The first value of a domain from `low`, which is one of them, to `high` with which, at place `k` of the series,
-/// counted from 1, this doesn't meet the requirement, or that is one too many to be tried. Where the steps of the machine
-/// are by letters alone, of values that compare in the same way with the cells beside the place only one is tried.
+/// counted from 1, this doesn't meet the requirement, or that is one too many to be tried. Where the steps of the
+/// machine are by letters alone, of values that compare in the same way with the cells beside the place only one is
+/// tried.
 fn first_failing(
     witness: &mut Witness,
     m: &Machine,

@@ -127,8 +127,8 @@ impl Witness {
         Sides { left, right }
     }
 
-    /// Whether both runs have this beside cell `k`, counted from 1, as far as it matters. Only for a machine that can be
-    /// split.
+    /// Whether both runs have this beside cell `k`, counted from 1, as far as it matters. Only for a machine that can
+    /// be split.
     pub(crate) fn has_beside(&mut self, m: &Machine, k: u32, sides: &Sides) -> bool
         requires split { IsSome (pair_of m.now) }
         requires witness { IsWitness m.now self.old }

@@ -1,5 +1,5 @@
-//! Random boxes under a term that looks at some of their cells. A row is the hull, register by register, of the runs over
-//! these cells; each value was seen to lie in the spans.
+//! Random boxes under a term that looks at some of their cells. A row is the hull, register by register, of the runs
+//! over these cells; each value was seen to lie in the spans.
 
 static BOXES: &str = "\
 cells 7

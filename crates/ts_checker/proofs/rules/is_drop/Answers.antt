@@ -12,22 +12,26 @@ returns-then-not-has_others-clause-keeps c =
 
 pub is_usable-requires : goal.is_usable-requires
 is_usable-requires c =
-    asked_stands (model_parts c.args.model.now) c.bring.new.self.machines (brought (model_parts c.args.model.now) _ _ c.bring.ensures.machines c.requires.tables) c.args.j c.in-Some.require c.deref.result.now c.deref.ensures.value
+    asked_stands (model_parts c.args.model.now) c.bring.new.self.machines
+    (brought (model_parts c.args.model.now) _ _ c.bring.ensures.machines c.requires.tables) c.args.j c.in-Some.require c.deref.result.now c.deref.ensures.value
     c.in-Some.ensures
 
 pub returns-then-not-is_usable-clause-keeps : goal.returns-then-not-is_usable-clause-keeps
 returns-then-not-is_usable-clause-keeps c =
-    drop_unusable (model_parts c.args.model.now) c.bring.new.self.machines (brought (model_parts c.args.model.now) _ _ c.bring.ensures.machines c.requires.tables) c.args.b.now.present c.args.k c.args.v c.args.j c.in-Some.require
+    drop_unusable (model_parts c.args.model.now) c.bring.new.self.machines
+    (brought (model_parts c.args.model.now) _ _ c.bring.ensures.machines c.requires.tables) c.args.b.now.present c.args.k c.args.v c.args.j c.in-Some.require
     c.deref.result.now c.is_usable.result c.deref.ensures.value c.in-Some.ensures c.if-not-is_usable.true c.is_usable.ensures
 
 pub refuted_value-requires-clause-there : goal.refuted_value-requires-clause-there
 refuted_value-requires-clause-there c =
-    asked_stands (model_parts c.args.model.now) c.bring.new.self.machines (brought (model_parts c.args.model.now) _ _ c.bring.ensures.machines c.requires.tables) c.args.j c.in-Some.require c.deref.result.now c.deref.ensures.value
+    asked_stands (model_parts c.args.model.now) c.bring.new.self.machines
+    (brought (model_parts c.args.model.now) _ _ c.bring.ensures.machines c.requires.tables) c.args.j c.in-Some.require c.deref.result.now c.deref.ensures.value
     c.in-Some.ensures
 
 pub returns-clause-keeps : goal.returns-clause-keeps
 returns-clause-keeps c =
-    drop_answered (model_parts c.args.model.now) c.bring.new.self.machines (brought (model_parts c.args.model.now) _ _ c.bring.ensures.machines c.requires.tables) c.args.b.now.present c.args.k c.args.v _ c.args.j c.in-Some.require
+    drop_answered (model_parts c.args.model.now) c.bring.new.self.machines
+    (brought (model_parts c.args.model.now) _ _ c.bring.ensures.machines c.requires.tables) c.args.b.now.present c.args.k c.args.v _ c.args.j c.in-Some.require
     c.deref.result.now c.cell.result.now c.is_usable.result c.refuted_value.result (to_z-of_z w64 c.args.v c.ranges.v) c.deref.ensures.value
     c.in-Some.ensures c.cell.ensures (c.if-not-has_others.ensures.0 refl) c.if-not-is_usable.false c.is_usable.ensures c.refuted_value.ensures.told
 
@@ -38,7 +42,8 @@ returns-clause-may c =
 
 pub refuted_value-requires-clause-looks : goal.refuted_value-requires-clause-looks
 refuted_value-requires-clause-looks c =
-    box_looks (model_parts c.args.model.now) c.bring.new.self.machines (brought (model_parts c.args.model.now) _ _ c.bring.ensures.machines c.requires.tables) c.args.b.now.present c.requires.size c.in-Some.require.term
+    box_looks (model_parts c.args.model.now) c.bring.new.self.machines
+    (brought (model_parts c.args.model.now) _ _ c.bring.ensures.machines c.requires.tables) c.args.b.now.present c.requires.size c.in-Some.require.term
 
 pub bring-requires : goal.bring-requires
 bring-requires c =

@@ -13,7 +13,8 @@ use Rattle.ts_glue.proofs.glue.glue_span.Goals as goal
 pub glued-span-requires-clause-fits : goal.glued-span-requires-clause-fits
 glued-span-requires-clause-fits c =
     let g = c.gluing-gluing in let u = expression g.result in
-    subst (λ s. GlueTakes SpansFit spans s (each c.of_hull-2.result.c c.of_hull-2.result.e c.of_hull-2.result.d c.of_hull-2.result.f c.of_hull-2.result.r) u) (sym c.of_hull.ensures)
+    subst (λ s. GlueTakes SpansFit spans s (each c.of_hull-2.result.c c.of_hull-2.result.e c.of_hull-2.result.d c.of_hull-2.result.f c.of_hull-2.result.r) u)
+    (sym c.of_hull.ensures)
     (subst (λ s. GlueTakes SpansFit spans (spans_of c.args.left.hull) s u) (sym c.of_hull-2.ensures)
     (spans_fit c.args.m.now c.requires.split g.ensures.forward_rules g.ensures.reverse_rules u (hull_standing c.args.left) (hull_standing c.args.right)
     c.requires.left c.requires.right
@@ -31,6 +32,8 @@ returns c =
     (not-false (has_registers (spans_of c.args.left.hull)) (sym c.is_none.ensures ∙ c.if-is_none.false))
     (not-false (has_registers (spans_of c.args.right.hull)) (sym c.is_none-else-is_none.ensures ∙ c.if-is_none-2.false))
     (c.mark.ensures ∙ ap (λ b. b.mark) c.forward.ensures)
-    (c.glued-span.ensures ∙ ap (λ s. glue_in spans s (each c.of_hull-2.result.c c.of_hull-2.result.e c.of_hull-2.result.d c.of_hull-2.result.f c.of_hull-2.result.r) u) c.of_hull.ensures
+    (c.glued-span.ensures
+    ∙ ap (λ s. glue_in spans s (each c.of_hull-2.result.c c.of_hull-2.result.e c.of_hull-2.result.d c.of_hull-2.result.f c.of_hull-2.result.r) u)
+    c.of_hull.ensures
     ∙ ap (λ s. glue_in spans (spans_of c.args.left.hull) s u) c.of_hull-2.ensures)
     c.applied_to_span.ensures

@@ -10,7 +10,8 @@ use Rattle.ts_glue.proofs.glue.glue_value.Goals as goal
 pub glued-value-requires-clause-fits : goal.glued-value-requires-clause-fits
 glued-value-requires-clause-fits c =
     let g = c.gluing-gluing in let u = expression g.result in
-    subst (λ s. GlueTakes Fits numbers s (each c.of_run-2.result.c c.of_run-2.result.e c.of_run-2.result.d c.of_run-2.result.f c.of_run-2.result.r) u) (sym c.of_run.ensures)
+    subst (λ s. GlueTakes Fits numbers s (each c.of_run-2.result.c c.of_run-2.result.e c.of_run-2.result.d c.of_run-2.result.f c.of_run-2.result.r) u)
+    (sym c.of_run.ensures)
     (subst (λ s. GlueTakes Fits numbers (regs_of c.args.left.regs) s u) (sym c.of_run-2.ensures)
     (value_fits c.args.m.now c.requires.split g.ensures.forward_rules g.ensures.reverse_rules u (standing_of c.args.left) (standing_of c.args.right)
     c.requires.left c.requires.right _ g.ensures.value))

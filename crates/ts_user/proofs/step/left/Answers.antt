@@ -30,7 +30,8 @@ loop-entry-preserved c =
     record {
       book = c.in_ok-add_left.ensures.book;
       left = left_more (residuals_of c.args.book.now) (residuals_of c.loop-entry.book) (residuals_of c.add_left.new.book) c.args.letter c.args.live.now
-          c.loop-entry.entry-index _ c.loop-entry.kept.live.items c.add_left.new.kept.live.items c.requires.listed c.loop-entry-test.true c.loop-entry.invariant.left
+          c.loop-entry.entry-index _ c.loop-entry.kept.live.items c.add_left.new.kept.live.items c.requires.listed c.loop-entry-test.true
+          c.loop-entry.invariant.left
           c.in_ok-add_left.ensures.added;
       found = c.in_ok-add_left.ensures.found;
     }

@@ -30,12 +30,14 @@ returns-clause-found c =
     elim c.if-is_new.branch [
       | then-is_new+in_ok-add w ↦
           let a = w.in_ok-add.ensures in
-          subst (λ (z : Book). IsFound (residuals_of c.args.self.now) (residuals_of z) (form_at (shapes_in c.args.self.now.forms) c.args.form) c.in_ok-place.place)
+          subst (λ (z : Book). IsFound (residuals_of c.args.self.now) (residuals_of z)
+          (form_at (shapes_in c.args.self.now.forms) c.args.form) c.in_ok-place.place)
           (sym w.self-is)
           (number_new_found (shape_of c.args.p.now.regex) c.args.self.now w.add.new.self c.insert_full.new.self.keys c.args.form c.in_ok-place.place
           c.in_ok-place.is_new c.requires.book e.added e.keys w.if-is_new.true e.stored a.forms a.residuals)
       | else-is_new w ↦
-          subst (λ (z : Book). IsFound (residuals_of c.args.self.now) (residuals_of z) (form_at (shapes_in c.args.self.now.forms) c.args.form) c.in_ok-place.place)
+          subst (λ (z : Book). IsFound (residuals_of c.args.self.now) (residuals_of z)
+          (form_at (shapes_in c.args.self.now.forms) c.args.form) c.in_ok-place.place)
           (sym w.self-is)
           (number_old_found (shape_of c.args.p.now.regex) c.args.self.now (record c.args.self.now { places = c.insert_full.new.self })
           c.insert_full.new.self.keys c.args.form c.in_ok-place.place c.in_ok-place.is_new c.requires.book e.added e.keys w.if-is_new.false e.stored refl refl)

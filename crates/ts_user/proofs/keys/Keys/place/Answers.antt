@@ -9,4 +9,5 @@ returns-then-is_new c =
 pub returns-else-is_new : goal.returns-else-is_new
 returns-else-is_new c =
     let e = c.in_ok-place.ensures in
-    placed_old c.args.self.now.lists.keys c.insert_full.new.self.keys c.args.key c.in_ok-place.is_new c.in_ok-place.place e.added e.keys c.if-is_new.false e.stored
+    placed_old c.args.self.now.lists.keys c.insert_full.new.self.keys c.args.key c.in_ok-place.is_new c.in_ok-place.place e.added e.keys c.if-is_new.false
+    e.stored
