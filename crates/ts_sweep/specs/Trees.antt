@@ -1,5 +1,5 @@
 -- Ends of expressions in lanes, with sums that are clamped.
-use Rattle.std.specs.Prelude.{ℤ, pos, negsuc, List}
+use Rattle.std.specs.Prelude.{ℤ, pos, negsuc, ◌≤ℤ◌, List}
 use Rattle.ts_base.specs.declared.ext.Ext.{Ext}
 use Rattle.ts_base.specs.declared.ext.Ext.TheVariants.{NegInf, Int, PosInf}
 use Rattle.ts_base.specs.Numbers.{ext_plus}
@@ -20,6 +20,10 @@ abbrev pub lane_of : Ext → ℤ
 lane_of NegInf = negsuc 9223372036854775806
 lane_of (Int x) = x
 lane_of PosInf = pos 9223372036854775807
+
+-- at most half of the clamp in size
+abbrev pub IsHalf : ℤ → Type 0
+IsHalf x = (negsuc 49999999999999999 ≤ℤ x) × (x ≤ℤ pos 50000000000000000)
 
 -- the sum of what two lanes stand for, as upper ends and as lower ones
 abbrev pub sum_above : ℤ → ℤ → ℤ

@@ -1,11 +1,12 @@
 //! Expressions and operators that are known only when the program runs. Their sums are clamped and know infinities, so
 //! they serve all hulls.
 
-ghost use Rattle.std.specs.Prelude.{◌≡◌, ◌≤◌};
+ghost use Rattle.std.specs.Prelude.{◌≡◌, ◌≤◌, ◌↔◌, IsTrue};
 ghost use Rattle.ts_automaton.specs.Formula.{formula, is_narrow};
+ghost use Rattle.ts_automaton.specs.declared.expr.Operator.TheVariants.{Sub};
 ghost use Rattle.ts_sweep.specs.Sides.{as_read};
 ghost use Rattle.ts_sweep.specs.Small.{IsSmall};
-ghost use Rattle.ts_sweep.specs.Trees.{folded_by, sum_above, sum_below, tree_value};
+ghost use Rattle.ts_sweep.specs.Trees.{IsHalf, folded_by, joined_by, sum_above, sum_below, tree_value};
 
 use crate::cover::Cover;
 use crate::front::Front;
@@ -36,8 +37,28 @@ pub(crate) fn is_narrow(e: &Expr) -> bool
     }
 }
 
-/// The sum of two upper ends, clamped.
+/// Whether a number is so small that no sum of two such ones is clamped.
+#[inline(always)]
+fn is_half(x: i64) -> bool
+    ensures { IsTrue result ↔ IsHalf x }
+{
+    x >= -50_000_000_000_000_000 && x <= 50_000_000_000_000_000
+}
+
+/// The sum of two upper ends, clamped. Most are small, and added at once.
+#[inline(always)]
 fn above_both(x: i64, y: i64) -> i64
+    ensures { result ≡ sum_above x y }
+{
+    if is_half(x) && is_half(y) {
+        x + y
+    } else {
+        above_any(x, y)
+    }
+}
+
+/// The sum of any two upper ends, clamped.
+fn above_any(x: i64, y: i64) -> i64
     ensures { result ≡ sum_above x y }
 {
     if x <= -i64::MAX || y <= -i64::MAX {
@@ -50,8 +71,20 @@ fn above_both(x: i64, y: i64) -> i64
     }
 }
 
-/// The sum of two lower ends, which are negated, clamped.
+/// The sum of two lower ends, which are negated, clamped. Most are small, and added at once.
+#[inline(always)]
 fn below_both(x: i64, y: i64) -> i64
+    ensures { result ≡ sum_below x y }
+{
+    if is_half(x) && is_half(y) {
+        x + y
+    } else {
+        below_any(x, y)
+    }
+}
+
+/// The sum of any two lower ends, which are negated, clamped.
+fn below_any(x: i64, y: i64) -> i64
     ensures { result ≡ sum_below x y }
 {
     if x == i64::MAX || y == i64::MAX {
@@ -84,7 +117,9 @@ pub(crate) fn folded_ends(op: Op, a: Ends, b: Ends) -> Ends
     }
 }
 
-/// The ends of an expression in lanes, at a value and the next one.
+/// The ends of an expression in lanes, at a value and the next one. A word is read at once; operators alone are calls.
+#[cycle(tree)]
+#[inline(always)]
 pub(crate) fn tree_ends<H: Packed>(e: &Expr, h: H, x: i64, y: i64) -> Ends
     requires registers { 6 ≤ H.count }
     requires small { IsSmall x }
@@ -109,27 +144,39 @@ pub(crate) fn tree_ends<H: Packed>(e: &Expr, h: H, x: i64, y: i64) -> Ends
             below: -i64::MAX,
             above: i64::MAX,
         },
-        Expr::Add(a, b) => folded_ends(
-            Op::Add,
-            tree_ends::<H>(a, h, x, y),
-            tree_ends::<H>(b, h, x, y),
-        ),
-        Expr::Sub(a, b) => folded_ends(
-            Op::Add,
-            tree_ends::<H>(a, h, x, y),
-            crossed(tree_ends::<H>(b, h, x, y)),
-        ),
-        Expr::Max(a, b) => folded_ends(
-            Op::Max,
-            tree_ends::<H>(a, h, x, y),
-            tree_ends::<H>(b, h, x, y),
-        ),
-        Expr::Min(a, b) => folded_ends(
-            Op::Min,
-            tree_ends::<H>(a, h, x, y),
-            tree_ends::<H>(b, h, x, y),
-        ),
+        Expr::Add(a, b) => joined_ends::<H>(Op::Add, a, b, h, x, y),
+        Expr::Sub(a, b) => less_ends::<H>(a, b, h, x, y),
+        Expr::Max(a, b) => joined_ends::<H>(Op::Max, a, b, h, x, y),
+        Expr::Min(a, b) => joined_ends::<H>(Op::Min, a, b, h, x, y),
     }
+}
+
+/// The ends of two expressions that an operator joins.
+#[cycle(tree)]
+fn joined_ends<H: Packed>(op: Op, a: &Expr, b: &Expr, h: H, x: i64, y: i64) -> Ends
+    requires registers { 6 ≤ H.count }
+    requires small { IsSmall x }
+    requires next { IsSmall y }
+    ensures { result ≡ folded_by op (tree_value (formula a.now) (as_read H.sides (H.lanes h)) x y)
+        (tree_value (formula b.now) (as_read H.sides (H.lanes h)) x y) }
+{
+    let first = tree_ends::<H>(a, h, x, y);
+    let second = tree_ends::<H>(b, h, x, y);
+    folded_ends(op, first, second)
+}
+
+/// The ends of a difference.
+#[cycle(tree)]
+fn less_ends<H: Packed>(a: &Expr, b: &Expr, h: H, x: i64, y: i64) -> Ends
+    requires registers { 6 ≤ H.count }
+    requires small { IsSmall x }
+    requires next { IsSmall y }
+    ensures { result ≡ joined_by Sub (tree_value (formula a.now) (as_read H.sides (H.lanes h)) x y)
+        (tree_value (formula b.now) (as_read H.sides (H.lanes h)) x y) }
+{
+    let first = tree_ends::<H>(a, h, x, y);
+    let second = tree_ends::<H>(b, h, x, y);
+    folded_ends(Op::Add, first, crossed(second))
 }
 
 impl Operator for AnyOperator {
