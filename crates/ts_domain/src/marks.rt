@@ -216,11 +216,15 @@ impl Marks {
         match &self.root {
             Root::Empty => Ok(Marks::new()),
             Root::Full(node) => {
-                let before = node.before.try_clone(alloc)?;
-                let behind = node.behind.try_clone(alloc)?;
-                let mut copy = Node::spare(alloc)?;
-                copy.mark = node.mark;
-                Ok(joined_at(copy, before, behind))
+                let copy = Node {
+                    before: node.before.try_clone(alloc)?,
+                    mark: node.mark,
+                    more: node.more,
+                    behind: node.behind.try_clone(alloc)?,
+                };
+                Ok(Marks {
+                    root: Root::Full(Box::new(alloc, copy)?),
+                })
             }
         }
     }
