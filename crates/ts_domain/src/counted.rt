@@ -30,6 +30,7 @@ impl CountedRanges {
     }
 
     /// The place of one of the numbers, counted from 0; in one range alone nothing has to be searched for.
+    #[inline(always)]
     pub(crate) fn place_of(&self, v: i64) -> u64
         requires apart { RangesFrom (neg_ℤ greatest_value) self.now.items.items }
         requires has { Contains (values_of self.now.items.items) v }

@@ -9,6 +9,7 @@ use crate::interval::Interval;
 use crate::lookup::{first_from, last_up_to};
 
 /// The numbers of a piece up to `t`, `None` for none.
+#[inline(always)]
 pub(crate) fn up_to(ranges: &[Interval], piece: Interval, t: i64) -> Option<Interval>
     requires apart { RangesFrom (neg_ℤ greatest_value) ranges.now }
     requires piece { IsPiece (values_of ranges.now) piece }

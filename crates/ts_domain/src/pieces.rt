@@ -22,6 +22,7 @@ pub(crate) fn has_in(ranges: &[Interval], piece: Interval, v: i64) -> bool
 }
 
 /// How many numbers lie in a piece.
+#[inline(always)]
 pub(crate) fn count_in(ranges: &CountedRanges, piece: Interval) -> u64
     requires apart { RangesFrom (neg_ℤ greatest_value) ranges.now.items.items }
     requires piece { IsPiece (values_of ranges.now.items.items) piece }
@@ -33,6 +34,7 @@ pub(crate) fn count_in(ranges: &CountedRanges, piece: Interval) -> u64
 }
 
 /// How many numbers of a piece are at most `t`.
+#[inline(always)]
 pub(crate) fn count_up_to(ranges: &CountedRanges, piece: Interval, t: i64) -> u64
     requires apart { RangesFrom (neg_ℤ greatest_value) ranges.now.items.items }
     requires piece { IsPiece (values_of ranges.now.items.items) piece }
@@ -45,6 +47,7 @@ pub(crate) fn count_up_to(ranges: &CountedRanges, piece: Interval, t: i64) -> u6
 }
 
 /// How many numbers of a piece lie above `t` and below `u`.
+#[inline(always)]
 pub(crate) fn count_between(ranges: &CountedRanges, piece: Interval, t: i64, u: i64) -> u64
     requires apart { RangesFrom (neg_ℤ greatest_value) ranges.now.items.items }
     requires piece { IsPiece (values_of ranges.now.items.items) piece }

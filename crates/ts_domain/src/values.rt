@@ -37,6 +37,7 @@ impl<'a> Iterator for Values<'a> {
 
     ghost remaining = { item_count (λ s. s) };
 
+    #[inline(always)]
     fn next(&mut self) -> Option<i64> {
         if self.last < self.next {
             if self.passed == self.size {
