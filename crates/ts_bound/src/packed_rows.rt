@@ -10,7 +10,7 @@ ghost use Rattle.ts_sweep.specs.Sides.{has_wide, lane_count};
 use std::alloc::Global;
 use ts_automaton::Automaton;
 use ts_base::Memory;
-use ts_row::{Cell, PackedRow, Plan, next_row, start_row};
+use ts_row::{Cell, PackedRow, Plan, RowView, next_row, start_row};
 
 /// Makes of `row` that of the cell at which runs start, in the same memory. After `Memory` it holds whatever hulls.
 pub fn first_packed_row<const N: usize>(
@@ -35,7 +35,7 @@ pub fn next_packed_row<const N: usize>(
     a: &Automaton,
     plan: &Plan,
     values: Cell<'_>,
-    before: &PackedRow<N>,
+    before: &RowView<'_, N>,
     next_values: Cell<'_>,
     next: &mut PackedRow<N>,
 ) -> Result<(), Memory>

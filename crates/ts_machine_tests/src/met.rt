@@ -22,7 +22,7 @@ use ts_domain::{Boxed, Domain};
 use ts_glue::Machine;
 use ts_meet::{Asked, Joints, Spot, asked_at, finish_at, glued_at};
 use ts_pattern::{PatternId, Term};
-use ts_row::{PackedRow, Plan, next_row, start_row};
+use ts_row::{PackedRow, Plan, RowView, next_row, start_row};
 use ts_sweep::packed::Ends;
 
 /// Ranges of values, two of them with gaps.
@@ -50,6 +50,18 @@ fn first_row<const N: usize>(
     Ok(row)
 }
 
+/// All places of the row of an automaton at a cell, lent.
+fn whole_row<'a, const N: usize>(
+    a: &Automaton,
+    cell: &Domain,
+    row: &'a PackedRow<N>,
+) -> RowView<'a, N>
+    requires { IsRow N (length a.now.states) (length cell.now) row.now }
+    ensures { result ≡ row.now }
+{
+    row.part(0, cell.size() as usize)
+}
+
 /// That of the next cell.
 fn row_after<const N: usize>(
     alloc: Global,
@@ -73,7 +85,7 @@ fn row_after<const N: usize>(
         a,
         &plan,
         values.lend(),
-        row,
+        &whole_row(a, cell, row),
         next_values.lend(),
         &mut next,
     )?;
@@ -143,8 +155,8 @@ impl Asked for Nothing {
 /// The span where two rows meet, told and asked.
 fn met<const N: usize>(
     joints: &Joints,
-    left: &PackedRow<N>,
-    right: &PackedRow<N>,
+    left: &RowView<'_, N>,
+    right: &RowView<'_, N>,
     spot: Spot,
 ) -> Option<Span>
     requires registers { 6 ≤ lane_count N }
@@ -212,6 +224,8 @@ fn span_in_lanes<const N: usize>(
         value,
         cells: cells.cells(),
     };
+    let left = whole_row(m.forward(), cells.cell(k), &left);
+    let right = whole_row(reverse, cells.cell(k), &right);
     Ok(met(&joints, &left, &right, spot))
 }
 
@@ -243,7 +257,7 @@ fn end_in_lanes<const N: usize>(
 {
     let n = cells.cells();
     let row = ahead_row::<N>(alloc, a, cells, n)?;
-    Ok(finish_at(a, &row, i as usize, n))
+    Ok(finish_at(a, &whole_row(a, cells.cell(n), &row), i as usize, n))
 }
 
 /// Whether both ways tell the same at all values of a cell.

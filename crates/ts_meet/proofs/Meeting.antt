@@ -1,8 +1,8 @@
 -- The loops over the states of both sides.
-use Rattle.std.proofs.Common.{◌≡◌, ℕ, zero, suc, ◌+◌, ◌≤◌, ◌<◌, ℤ, pos, Bool, true, false, cond, ◌&&◌, List, [], ◌∷◌, ◌++◌, length, map, get_or, refl, sym, ap, subst, ◌∙◌, arith}
+use Rattle.std.proofs.Common.{◌≡◌, ℕ, zero, suc, ◌+◌, ◌≤◌, ◌<◌, ℤ, pos, Bool, true, false, cond, ◌&&◌, List, [], ◌∷◌, ◌++◌, map, get_or, refl, sym, ap, subst, ◌∙◌, arith}
 use Rattle.std.specs.Prelude.{flat_map, fold}
 use Rattle.std.specs.List.{range_with_len}
-use Rattle.std.proofs.lemmas.List.{flat_map_more, get_or_default}
+use Rattle.std.proofs.lemmas.List.{flat_map_more}
 use Rattle.std.proofs.lemmas.List.FromFn.{map-range_with_len_more}
 use Rattle.std.proofs.lemmas.List.Sums.{fold-append, fold_push}
 use Rattle.ts_base.specs.declared.span.Span.{Span}
@@ -48,11 +48,9 @@ pub none_there : (n : ℕ) (xs : List ℤ) → 6 ≤ n → IsPacked n xs → som
 none_there n xs big p none = ap (λ h. has_registers (spans_of h)) (ap unpacked (nothing_lanes n xs big p none) ∙ none_unpacked n big) ∙ none_registers
 
 -- the hull that was read at a place of a row
-pub standing_there : (n : ℕ) (row : List (List (PackedHull n))) (q i : ℕ) (column : List (PackedHull n)) (h : PackedHull n) →
-    column ≡ get_or row q [] → i < length (get_or row q []) → h ≡ get_or column i h → standing q (spans_of (unpacked (lanes_of n h))) ≡ standing_in n row q i
-standing_there n row q i column h e inside is =
-    ap (λ (z : PackedHull n). standing q (spans_of (unpacked (lanes_of n z))))
-    (is ∙ ap (λ z. get_or z i h) e ∙ get_or_default (get_or row q []) i h (nothing n) inside)
+pub standing_there : (n : ℕ) (row : List (List (PackedHull n))) (q i : ℕ) (h : PackedHull n) → h ≡ get_or (get_or row q []) i (nothing n) →
+    standing q (spans_of (unpacked (lanes_of n h))) ≡ standing_in n row q i
+standing_there n row q i h is = ap (λ (z : PackedHull n). standing q (spans_of (unpacked (lanes_of n z)))) is
 
 -- a pair of states
 

@@ -18,7 +18,7 @@ use crate::settled::reaches;
 use crate::spot::Spot;
 use ts_automaton::Op;
 use ts_base::Span;
-use ts_row::PackedRow;
+use ts_row::RowView;
 use ts_sweep::packed::Ends;
 
 /// A question about the numbers of a span: does any of them have a property?
@@ -49,8 +49,8 @@ pub fn asked_at<Q: Asked, const N: usize>(
     asked: Q,
     so_far: Span,
     joints: &Joints,
-    left: &PackedRow<N>,
-    right: &PackedRow<N>,
+    left: &RowView<'_, N>,
+    right: &RowView<'_, N>,
     spot: Spot,
 ) -> Option<Span>
     requires registers { 6 ≤ lane_count N }
@@ -92,8 +92,8 @@ fn asked_until<Q: Asked, const N: usize>(
     enough: Ends,
     so_far: Span,
     joints: &Joints,
-    left: &PackedRow<N>,
-    right: &PackedRow<N>,
+    left: &RowView<'_, N>,
+    right: &RowView<'_, N>,
     spot: Spot,
 ) -> Option<Span>
     requires registers { 6 ≤ lane_count N }
@@ -117,8 +117,8 @@ fn asked_until<Q: Asked, const N: usize>(
 fn glued_until<const N: usize>(
     enough: Ends,
     joints: &Joints,
-    left: &PackedRow<N>,
-    right: &PackedRow<N>,
+    left: &RowView<'_, N>,
+    right: &RowView<'_, N>,
     spot: Spot,
 ) -> Option<Ends>
     requires registers { 6 ≤ lane_count N }
@@ -144,8 +144,8 @@ fn hull_until<const N: usize>(
     enough: Ends,
     operator: Op,
     joints: &Joints,
-    left: &PackedRow<N>,
-    right: &PackedRow<N>,
+    left: &RowView<'_, N>,
+    right: &RowView<'_, N>,
     spot: Spot,
 ) -> Option<Ends>
     requires registers { 6 ≤ lane_count N }
@@ -165,7 +165,7 @@ fn hull_until<const N: usize>(
             operator,
             joints,
             q,
-            &left.column(q)[spot.place],
+            left.hull(q, spot.place),
             right,
             spot,
         );

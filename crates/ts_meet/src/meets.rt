@@ -19,7 +19,7 @@ use crate::side::shown;
 use crate::spot::Spot;
 use ts_automaton::{Automaton, Op};
 use ts_base::Span;
-use ts_row::PackedRow;
+use ts_row::RowView;
 use ts_sweep::front::Front;
 use ts_sweep::packed::{Ends, Packed, PackedHull};
 use ts_sweep::tree::Tree;
@@ -28,8 +28,8 @@ use ts_sweep::tree::Tree;
 /// the left, the reverse one on the right. States that no series reaches add nothing.
 pub fn glued_at<const N: usize>(
     joints: &Joints,
-    left: &PackedRow<N>,
-    right: &PackedRow<N>,
+    left: &RowView<'_, N>,
+    right: &RowView<'_, N>,
     spot: Spot,
 ) -> Span
     requires registers { 6 ≤ lane_count N }
@@ -53,8 +53,8 @@ pub fn glued_at<const N: usize>(
 fn glued_by<const N: usize>(
     operator: Op,
     joints: &Joints,
-    left: &PackedRow<N>,
-    right: &PackedRow<N>,
+    left: &RowView<'_, N>,
+    right: &RowView<'_, N>,
     spot: Spot,
 ) -> Span
     requires registers { 6 ≤ lane_count N }
@@ -74,7 +74,7 @@ fn glued_by<const N: usize>(
             operator,
             joints,
             q,
-            &left.column(q)[spot.place],
+            left.hull(q, spot.place),
             right,
             spot,
         );
@@ -90,7 +90,7 @@ pub(crate) fn with_reached<const N: usize>(
     joints: &Joints,
     q: u8,
     left: &PackedHull<N>,
-    right: &PackedRow<N>,
+    right: &RowView<'_, N>,
     spot: Spot,
 ) -> Ends
     requires registers { 6 ≤ lane_count N }
@@ -119,7 +119,7 @@ fn with_state<const N: usize>(
     joints: &Joints,
     q: u8,
     left: &PackedHull<N>,
-    right: &PackedRow<N>,
+    right: &RowView<'_, N>,
     spot: Spot,
 ) -> Ends
     requires registers { 6 ≤ lane_count N }
@@ -143,7 +143,7 @@ fn with_state<const N: usize>(
             q,
             r,
             left,
-            &right.column(r)[spot.place],
+            right.hull(r, spot.place),
             spot,
         );
     }
@@ -183,7 +183,7 @@ fn with_pair<const N: usize>(
 }
 
 /// The hull of the finish spans of all states, at place `i` of the values of the last cell, of a series of `n` cells.
-pub fn finish_at<const N: usize>(a: &Automaton, row: &PackedRow<N>, i: usize, n: u32) -> Span
+pub fn finish_at<const N: usize>(a: &Automaton, row: &RowView<'_, N>, i: usize, n: u32) -> Span
     requires registers { 6 ≤ lane_count N }
     requires lanes { N ≤ 64 }
     requires alone { (sides N ≡ BothEnds) ⊎ (a.now.wide ≡ false) }
@@ -192,7 +192,7 @@ pub fn finish_at<const N: usize>(a: &Automaton, row: &PackedRow<N>, i: usize, n:
 {
     let mut hull = nothing();
     for q in 0..a.states() {
-        hull = with_finish(hull, a, &row.column(q)[i], n);
+        hull = with_finish(hull, a, row.hull(q, i), n);
     }
     span_of(hull)
 }

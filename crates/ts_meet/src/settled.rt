@@ -24,7 +24,7 @@ use crate::lane::{End, apart_lane, keeps};
 use crate::marked::marked;
 use crate::needed::Needed;
 use ts_automaton::{Mark, Op};
-use ts_row::PackedRow;
+use ts_row::RowView;
 use ts_sweep::packed::{Ends, Packed, PackedHull};
 
 /// The place up to which, from the place `from` on, pairs of states settle that the spans have what is asked, whatever
@@ -32,8 +32,8 @@ use ts_sweep::packed::{Ends, Packed, PackedHull};
 pub fn settled_to<Q: Asked, const N: usize>(
     asked: Q,
     joints: &Joints,
-    left: &PackedRow<N>,
-    right: &PackedRow<N>,
+    left: &RowView<'_, N>,
+    right: &RowView<'_, N>,
     cells: u32,
     from: usize,
     to: usize,
@@ -59,8 +59,8 @@ pub fn settled_to<Q: Asked, const N: usize>(
 fn settled_by<const N: usize>(
     needed: Needed,
     joints: &Joints,
-    left: &PackedRow<N>,
-    right: &PackedRow<N>,
+    left: &RowView<'_, N>,
+    right: &RowView<'_, N>,
     cells: u32,
     from: usize,
     to: usize,
@@ -88,8 +88,8 @@ fn settled_on<const N: usize>(
     end: End,
     given: i64,
     joints: &Joints,
-    left: &PackedRow<N>,
-    right: &PackedRow<N>,
+    left: &RowView<'_, N>,
+    right: &RowView<'_, N>,
     cells: u32,
     from: usize,
     to: usize,
@@ -133,8 +133,8 @@ fn settled_on<const N: usize>(
 fn settled_in<const N: usize>(
     needed: Needed,
     joints: &Joints,
-    left: &PackedRow<N>,
-    right: &PackedRow<N>,
+    left: &RowView<'_, N>,
+    right: &RowView<'_, N>,
     cells: u32,
     from: usize,
     to: usize,
@@ -168,7 +168,7 @@ fn settled_with<const N: usize>(
     joints: &Joints,
     q: u8,
     left: &[PackedHull<N>],
-    right: &PackedRow<N>,
+    right: &RowView<'_, N>,
     cells: u32,
     from: usize,
     to: usize,

@@ -10,3 +10,4 @@ pub mod StartLaws
 pub mod Moves
 pub mod Resets
 pub mod SeenRows
+pub mod Parts

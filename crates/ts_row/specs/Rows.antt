@@ -1,5 +1,5 @@
 -- A row of packed hulls: for each state a column, with a hull for each value of the cell.
-use Rattle.std.specs.Prelude.{◌≡◌, ℕ, ◌<◌, Bool, false, cond, nat_eq, ℤ, List, [], length, map, flat_map, get_or}
+use Rattle.std.specs.Prelude.{◌≡◌, ℕ, ◌<◌, Bool, false, cond, nat_eq, ℤ, List, [], length, map, flat_map, get_or, slice_range}
 use Rattle.std.specs.List.{range_with_len}
 use Rattle.ts_base.specs.declared.letter.Letter.{Letter}
 use Rattle.ts_base.specs.declared.letter.Letter.TheVariants.{Less, Equal, Greater}
@@ -39,6 +39,10 @@ IsColumn n count hulls = ArePacked (lanes_of n) (nothing n) (lane_count n) count
 pub record IsRow (n states count : ℕ) (row : List (List (PackedHull n))) : Type 0 where
   pub len : length row ≡ states
   pub columns : (q : ℕ) → q < states → IsColumn n count (get_or row q [])
+
+-- the columns at the places from `from` up to `to`
+abbrev pub columns_part : {X : Type 0} → (from to : ℕ) → List (List X) → List (List X)
+columns_part from to columns = map (λ column. slice_range column from to) columns
 
 -- the hull of state q at place i
 abbrev pub hull_in : (n : ℕ) → List (List (PackedHull n)) → ℕ → ℕ → Hull

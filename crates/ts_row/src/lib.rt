@@ -2,7 +2,8 @@
 //! value of the cell.
 //!
 //! A row is made from the row before, state by state: the moves of a state are taken in from its column into the
-//! columns that they lead to. How each move is taken in is worked out once for an automaton, its `Plan`.
+//! columns that they lead to. How each move is taken in is worked out once for an automaton, its `Plan`. A row is read
+//! through a `RowView`, at all of its places or at some.
 //!
 //! ```text
 //!   row before                 plan of state 1             next row
@@ -18,6 +19,7 @@ mod cell;
 mod packed_row;
 mod plan;
 mod row_steps;
+mod row_view;
 mod shapes;
 mod start;
 mod words;
@@ -26,4 +28,5 @@ pub use cell::Cell;
 pub use packed_row::PackedRow;
 pub use plan::Plan;
 pub use row_steps::next_row;
+pub use row_view::RowView;
 pub use start::start_row;

@@ -1,10 +1,11 @@
 //! A row of hulls in packed form.
 
-ghost use Rattle.std.specs.List.{remove_range};
+ghost use Rattle.std.specs.List.{All, remove_range};
 ghost use Rattle.std.specs.Prelude.{◌≡◌, ℕ, ◌<◌, ◌≤◌, [], IfOk, length, get_or, map};
-ghost use Rattle.ts_row.specs.Rows.{AreAll, IsRow, nothing};
+ghost use Rattle.ts_row.specs.Rows.{AreAll, IsRow, columns_part, nothing};
 ghost use Rattle.ts_sweep.specs.declared.packed.PackedHull.{PackedHull};
 
+use crate::row_view::RowView;
 use std::alloc::Global;
 use std::marker::Model;
 use ts_base::Memory;
@@ -93,6 +94,20 @@ impl<const N: usize> PackedRow<N> {
         ensures { result.now ≡ get_or self.now q [] }
     {
         &self.columns[q as usize].hulls
+    }
+
+    /// The hulls at the places from `from` up to `to`.
+    #[inline(always)]
+    pub fn part(&self, from: usize, to: usize) -> RowView<'_, N>
+        requires order { from ≤ to }
+        requires inside { All (λ column. to ≤ length column) self.now }
+        ensures { result ≡ columns_part from to self.now }
+    {
+        RowView {
+            columns: &self.columns,
+            from,
+            to,
+        }
     }
 
     /// Gives the row as many columns as there are states, with whatever hulls. After `Memory` it may have fewer.

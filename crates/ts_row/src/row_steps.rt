@@ -18,6 +18,7 @@ use crate::between::{Between, On};
 use crate::cell::Cell;
 use crate::packed_row::PackedRow;
 use crate::plan::{Equals, Plan, Shape, StatePlan, turn};
+use crate::row_view::RowView;
 use crate::shapes::take_shape;
 use std::alloc::Global;
 use ts_automaton::{Automaton, Turn};
@@ -225,7 +226,7 @@ pub fn next_row<const N: usize>(
     a: &Automaton,
     plan: &Plan,
     values: Cell<'_>,
-    before: &PackedRow<N>,
+    before: &RowView<'_, N>,
     next_values: Cell<'_>,
     next: &mut PackedRow<N>,
 ) -> Result<(), Memory>

@@ -17,11 +17,10 @@ pub loop-q-preserved : goal.loop-q-preserved
 loop-q-preserved g c p h =
     let at = c.args.spot in let left = c.args.left.now in let right = c.args.right.now in let q = c.loop-q.q in
     let states = length p.reverse.states in
-    let below : q < c.args.joints.now.left_states = omega (arith, c.loop-q-test.true, c.loop-q.auto.q-end) in
     let before = hull_of_spans (spans_between g.row.N p left right at.place at.value at.cells states q) in
     subst (StandFor c.with_reached-hull.result)
     (ap (λ z. fold span_hull before (spans_with g.row.N p z right at.place at.value at.cells states))
-    (standing_there g.row.N left q at.place _ c.index-column-spot.result c.column.ensures (c.requires.left.inside q below) c.index-column-spot.is)
+    (standing_there g.row.N left q at.place c.hull.result.now c.hull.ensures)
     ∙ sym (between_more g.row.N p left right at.place at.value at.cells states q none_span))
     (c.with_reached-hull.ensures p before h (c.loop-q.invariant p h))
 
@@ -36,7 +35,7 @@ returns-then-has_reached g c p h =
     let stands : StandFor c.with_reached-hull.result part =
     subst (StandFor c.with_reached-hull.result)
     (ap (λ z. fold span_hull before (spans_with g.row.N p z right at.place at.value at.cells states))
-    (standing_there g.row.N left q at.place _ c.index-column-spot.result c.column.ensures (c.requires.left.inside q below) c.index-column-spot.is)
+    (standing_there g.row.N left q at.place c.hull.result.now c.hull.ensures)
     ∙ sym (between_more g.row.N p left right at.place at.value at.cells states q none_span))
     (c.with_reached-hull.ensures p before h (c.loop-q.invariant p h)) in (
       part,

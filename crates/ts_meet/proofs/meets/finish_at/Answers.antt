@@ -1,4 +1,4 @@
-use Rattle.std.proofs.Common.{◌≡◌, ◌<◌, sym, ap, subst, ◌∙◌, length, arith}
+use Rattle.std.proofs.Common.{◌≡◌, sym, ap, subst, ◌∙◌, length, arith}
 use Rattle.ts_base.specs.Spans.{none_span, span_hull}
 use Rattle.ts_sweep.specs.Sides.{sides}
 use Rattle.ts_meet.specs.Meets.{finish_seen, finishes_in, hull_of_spans}
@@ -14,11 +14,10 @@ loop-q-init g c =
 pub loop-q-preserved : goal.loop-q-preserved
 loop-q-preserved g c =
     let a = c.args.a.now in let row = c.args.row.now in let q = c.loop-q.q in
-    let below : q < length a.states = omega (arith, c.loop-q-test.true, c.states-q-end.ensures.count) in
     let before = hull_of_spans (finishes_in g.row.N a row c.args.i c.args.n q) in
     subst (StandFor c.with_finish-hull.result)
     (ap (λ z. span_hull before (finish_seen (sides g.row.N) a z c.args.n))
-    (standing_there g.row.N row q c.args.i _ c.index-column-i.result c.column.ensures (c.requires.row.inside q below) c.index-column-i.is)
+    (standing_there g.row.N row q c.args.i c.hull.result.now c.hull.ensures)
     ∙ sym (finishes_more g.row.N a row c.args.i c.args.n q none_span))
     (c.with_finish-hull.ensures q before c.loop-q.invariant)
 

@@ -1,4 +1,4 @@
-use Rattle.std.proofs.Common.{◌≡◌, ◌<◌, sym, ap, subst, ◌∙◌, length, arith}
+use Rattle.std.proofs.Common.{◌≡◌, sym, ap, subst, ◌∙◌, length, arith}
 use Rattle.std.specs.Prelude.{fold}
 use Rattle.ts_automaton.specs.Registers.{spans_of}
 use Rattle.ts_base.specs.Spans.{span_hull}
@@ -19,12 +19,11 @@ loop-r-init g c p s h stands =
 pub loop-r-preserved : goal.loop-r-preserved
 loop-r-preserved g c p s h stands =
     let at = c.args.spot in let right = c.args.right.now in let r = c.loop-r.r in
-    let below : r < c.args.joints.now.right_states = omega (arith, c.loop-r-test.true, c.loop-r.auto.r-end) in
     let left = standing c.args.q (spans_of (unpacked (lanes_of g.row.N c.args.left.now))) in
     let before = fold span_hull s (spans_with g.row.N p left right at.place at.value at.cells r) in
     subst (StandFor c.with_pair-all.result)
     (ap (λ z. span_hull before (glued_seen (sides g.row.N) p left z at.value at.cells))
-    (standing_there g.row.N right r at.place _ c.index-column-spot.result c.column.ensures (c.requires.right.inside r below) c.index-column-spot.is)
+    (standing_there g.row.N right r at.place c.hull.result.now c.hull.ensures)
     ∙ sym (with_more g.row.N p left right at.place at.value at.cells r s))
     (c.with_pair-all.ensures p before h (c.loop-r.invariant p s h stands))
 
