@@ -87,15 +87,6 @@ impl<const N: usize> PackedRow<N> {
         }
     }
 
-    /// The hulls of a state.
-    #[inline(always)]
-    pub fn column(&self, q: u8) -> &[PackedHull<N>]
-        requires { q < length self.now }
-        ensures { result.now ≡ get_or self.now q [] }
-    {
-        &self.columns[q as usize].hulls
-    }
-
     /// The hulls at the places from `from` up to `to`.
     #[inline(always)]
     pub fn part(&self, from: usize, to: usize) -> RowView<'_, N>
