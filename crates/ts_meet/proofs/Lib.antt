@@ -6,3 +6,4 @@ pub mod SeenGlue
 pub mod Asking
 pub mod CallerLemmas
 pub mod Lanes
+pub mod Places

@@ -4,7 +4,7 @@ use Rattle.ts_base.specs.declared.op.Op.{Op}
 use Rattle.ts_base.specs.declared.op.Op.TheVariants.{Add, Max, Min}
 use Rattle.ts_automaton.specs.Body.{node_at}
 use Rattle.ts_automaton.specs.Registers.{EachOf}
-use Rattle.ts_glue.specs.Glue.{Glue, apart, fold_of, folded_between, folded_both, fold_op, is_join, is_wide, join_of, result_op}
+use Rattle.ts_glue.specs.Glue.{Glue, apart, fold_of, folded_between, folded_both, fold_op, glue_of, is_join, is_wide, join_of, result_op, worth}
 use Rattle.ts_glue.specs.declared.operand.Part.{Part}
 use Rattle.ts_glue.specs.Pairs.{Pair}
 use Rattle.ts_sweep.specs.declared.packed.Ends.{Ends}
@@ -36,6 +36,23 @@ told_joined o fold worth wide trims held_left held_right =
       held_left = held_left;
       held_right = held_right;
     })
+
+-- the same where the cell has another worth
+abbrev pub with_worth : Gluing → ℤ → Gluing
+with_worth g d = record {
+  result = g.result;
+  fold = g.fold;
+  worth = d;
+  wide = g.wide;
+  joins = g.joins;
+  trims = g.trims;
+  held_left = g.held_left;
+  held_right = g.held_right;
+}
+
+-- two states of a pair are glued so, whatever the value of the cell: with what that is worth
+abbrev pub IsGluing : Pair → (q r : ℕ) → Gluing → Type 0
+IsGluing p q r g = (x : ℤ) → expression (with_worth g (worth p.table.unit x)) ≡ glue_of p q r x
 
 -- the operator adds
 abbrev pub is_add : Op → Bool

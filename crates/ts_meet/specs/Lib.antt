@@ -5,3 +5,4 @@ pub mod Ends
 pub mod Meets
 pub mod Asked
 pub mod Settled
+pub mod Along

@@ -1,13 +1,13 @@
 //! How the runs of a machine are glued, worked out once for a machine.
 
-ghost use Rattle.std.specs.Prelude.{◌≡◌, ℕ, ◌<◌, ℤ, false, [], IfSome, IsSome, get_or, length};
+ghost use Rattle.std.specs.Prelude.{◌≡◌, ℕ, ◌<◌, ℤ, true, false, [], IfSome, IsSome, get_or, length};
 ghost use Rattle.ts_automaton.specs.Body.{node_at};
 ghost use Rattle.ts_automaton.specs.Formula.{formula};
 ghost use Rattle.ts_base.specs.Limits.{IsCellValue};
 ghost use Rattle.ts_glue.specs.Glue.{first_op, fold_op, glue_of, is_join, is_pair};
 ghost use Rattle.ts_glue.specs.Machines.{pair_of};
 ghost use Rattle.ts_glue.specs.Pairs.{Pair, pair, table_view};
-ghost use Rattle.ts_meet.specs.Joints.{AreJoints, AreJoinsOf, expression};
+ghost use Rattle.ts_meet.specs.Joints.{AreJoints, AreJoinsOf, IsGluing, expression};
 
 use crate::gluing::Gluing;
 use crate::joints::{Joints, STATES};
@@ -70,6 +70,30 @@ impl Joints {
             trims: self.trims,
             held_left: false,
             held_right: false,
+        }
+    }
+
+    /// How the registers are glued between two states from the one of which one occurrence goes on to the other, but for
+    /// what the cell is worth. `operator` is the one that joins results, `fold` the one that folds the occurrence.
+    #[inline(always)]
+    pub(crate) fn joined(&self, operator: Op, fold: Op, left: u8, right: u8) -> Gluing
+        requires operator { operator ≡ self.now.result }
+        requires fold { fold ≡ self.now.fold }
+        requires left { left < self.now.left_states }
+        requires right { right < self.now.right_states }
+        ensures value { (p : Pair) → AreJoints p self.now → is_join p.table left right ≡ true →
+            IsGluing p left right result }
+        ensures wide { result.wide ≡ self.now.wide }
+    {
+        Gluing {
+            result: operator,
+            fold,
+            worth: 0,
+            wide: self.wide,
+            joins: true,
+            trims: self.trims,
+            held_left: self.held_left[left as usize],
+            held_right: self.held_right[right as usize],
         }
     }
 

@@ -6,7 +6,7 @@ ghost use Rattle.ts_base.specs.declared.ext.Ext.TheVariants.{Int};
 ghost use Rattle.ts_base.specs.Limits.{IsCellValue};
 ghost use Rattle.ts_glue.specs.Glue.{GlueTakes, apart, fold_of, folded_between, folded_both, glue_in, held_of, result_of};
 ghost use Rattle.ts_hull.specs.Sealed.{sealed_spans};
-ghost use Rattle.ts_meet.specs.Joints.{IsFoldPlain, IsPlain, expression, folds_held, is_add, joined_expression, part_by, told_joined};
+ghost use Rattle.ts_meet.specs.Joints.{IsFoldPlain, IsPlain, expression, folds_held, is_add, joined_expression, part_by, told_joined, with_worth};
 ghost use Rattle.ts_meet.specs.Sides.{ends_in, pointed_spans};
 ghost use Rattle.ts_row.specs.Rows.{lanes_of};
 ghost use Rattle.ts_sweep.specs.Fronts.{ArePlain};
@@ -35,10 +35,28 @@ pub(crate) struct Gluing {
 }
 
 impl Gluing {
+    /// How the registers are glued where the cell has this worth.
+    #[inline(always)]
+    pub(crate) fn with_worth(self, worth: i64) -> Gluing
+        ensures { result ≡ with_worth self worth }
+    {
+        Gluing {
+            result: self.result,
+            fold: self.fold,
+            worth,
+            wide: self.wide,
+            joins: self.joins,
+            trims: self.trims,
+            held_left: self.held_left,
+            held_right: self.held_right,
+        }
+    }
+
     /// How the registers are glued where no occurrence goes on.
     #[inline(always)]
     pub(crate) fn apart(operator: Op, wide: bool) -> Gluing
         ensures parts { (result.wide ≡ wide) × (result.result ≡ operator) }
+        ensures apart { result.joins ≡ false }
     {
         Gluing {
             result: operator,
@@ -65,6 +83,76 @@ impl Gluing {
             (expression self))) }
     {
         shown::<N>(self.pointed(left, right))
+    }
+
+    /// The glued ends of two hulls before the mark, as `glued` says, for a loop over hulls: where one occurrence goes on
+    /// they are found in place too, as far as the numbers are small.
+    #[inline(always)]
+    pub(crate) fn glued_in_loop<const N: usize>(
+        self,
+        left: &PackedHull<N>,
+        right: &PackedHull<N>,
+    ) -> Ends
+        requires registers { 6 ≤ lane_count N }
+        requires alone { (sides N ≡ BothEnds) ⊎ (self.wide ≡ false) }
+        requires left { AreSome (lane_count N) (lanes_of N left.now) }
+        requires right { AreSome (lane_count N) (lanes_of N right.now) }
+        requires worth { IsCellValue self.worth }
+        ensures { IsPackOf result (seen (sides N) (glue_in sealed_spans
+            (spans_of (unpacked (lanes_of N left.now))) (spans_of (unpacked (lanes_of N right.now)))
+            (expression self))) }
+    {
+        shown::<N>(self.pointed_in_loop(left, right))
+    }
+
+    /// The glued ends of two hulls before the mark, where an end that they haven't is read as the one that they have,
+    /// for a loop over hulls.
+    #[inline(always)]
+    fn pointed_in_loop<const N: usize>(self, left: &PackedHull<N>, right: &PackedHull<N>) -> Ends
+        requires registers { 6 ≤ lane_count N }
+        requires left { AreSome (lane_count N) (lanes_of N left.now) }
+        requires right { AreSome (lane_count N) (lanes_of N right.now) }
+        requires worth { IsCellValue self.worth }
+        ensures { IsPackOf result (glue_in sealed_spans
+            (pointed_spans (sides N) (spans_of (unpacked (lanes_of N left.now))))
+            (pointed_spans (sides N) (spans_of (unpacked (lanes_of N right.now)))) (expression self)) }
+    {
+        if self.joins {
+            self.joined_in_loop(left, right)
+        } else {
+            self.pointed_apart(left, right)
+        }
+    }
+
+    /// The glued ends of two hulls before the mark, where one occurrence goes on, for a loop over hulls: if all numbers
+    /// that are added are small, sums are those of the lanes; otherwise a call clamps them.
+    #[inline(always)]
+    fn joined_in_loop<const N: usize>(self, left: &PackedHull<N>, right: &PackedHull<N>) -> Ends
+        requires registers { 6 ≤ lane_count N }
+        requires left { AreSome (lane_count N) (lanes_of N left.now) }
+        requires right { AreSome (lane_count N) (lanes_of N right.now) }
+        requires worth { IsCellValue self.worth }
+        requires joined { self.joins ≡ true }
+        ensures { IsPackOf result (glue_in sealed_spans
+            (pointed_spans (sides N) (spans_of (unpacked (lanes_of N left.now))))
+            (pointed_spans (sides N) (spans_of (unpacked (lanes_of N right.now)))) (joined_expression self)) }
+    {
+        let (first, second) = (Side::of(left), Side::of(right));
+        if self.is_joined_plain(first, second) {
+            self.joined_by::<Plain>(first, second)
+        } else {
+            joined_pair(
+                self.result,
+                self.fold,
+                self.worth,
+                self.wide,
+                self.trims,
+                self.held_left,
+                self.held_right,
+                left,
+                right,
+            )
+        }
     }
 
     /// The glued ends of two hulls before the mark, where an end that they haven't is read as the one that they have.

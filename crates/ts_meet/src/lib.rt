@@ -14,6 +14,7 @@
 //! hulls that have one end alone it is what that end tells: the other end of each span is infinite, before the mark.
 #![tactic(auto)]
 
+mod along;
 mod asked;
 mod found;
 mod gluing;
@@ -27,6 +28,7 @@ mod side;
 mod spot;
 mod sums;
 
+pub use along::glued_along;
 pub use asked::{Asked, asked_at};
 pub use joints::Joints;
 pub use meets::{finish_at, glued_at};

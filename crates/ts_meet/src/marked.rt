@@ -105,6 +105,14 @@ pub(crate) fn joined(hull: Ends, e: Ends) -> Ends
     greater(hull, e)
 }
 
+/// The hull of two hulls.
+#[inline(always)]
+pub(crate) fn hull_of_both(a: Ends, b: Ends) -> Ends
+    ensures { (s t : Span) → StandFor a s → StandFor b t → StandFor result (span_hull s t) }
+{
+    greater(a, b)
+}
+
 /// End by end the greater.
 #[inline(always)]
 fn greater(a: Ends, b: Ends) -> Ends
