@@ -42,7 +42,7 @@ use Rattle.ts_filter.specs.declared.cell_hulls.BackSide.{BackSide}
 use Rattle.ts_filter.specs.declared.question.Question.{Question}
 use Rattle.ts_filter.specs.declared.so_far.SoFar.{SoFar}
 use Rattle.ts_filter.specs.Alike.{FindsAlike, IsServed}
-use Rattle.ts_filter.specs.AnyRows.{Columns, IsFormOf, IsRowOf, columns, form_of, form_sides, glued_between, lanes_of}
+use Rattle.ts_filter.specs.AnyRows.{Columns, IsFormOf, IsRowOf, columns, form_of, form_sides, glued_between, lanes_of, viewed}
 use Rattle.ts_filter.specs.Boxes.{Box}
 use Rattle.ts_filter.specs.CellHulls.{IsSide}
 use Rattle.ts_filter.specs.KnownRows.{HasJoints}
@@ -212,10 +212,10 @@ module _ (f : Body) (before behind : Box) (values : List ℤ) (row : AnyRow) (si
       ahead.packed to inside
 
   pub right_places : (to : ℕ) → to ≤ length values → (o : Option Pair) → IsSide o behind values side →
-      HavePlaces (lanes_of side.row.now) side.joints.now.right_states to (columns side.row.now)
+      HavePlaces (lanes_of (viewed side.row)) side.joints.now.right_states to (columns (viewed side.row))
   right_places to inside None h = absurd h
   right_places to inside (Some p) h =
-      places_there (lanes_of side.row.now) p.reverse behind values (columns side.row.now) side.joints.now.right_states h.0.right_states h.1.packed to
+      places_there (lanes_of (viewed side.row)) p.reverse behind values (columns (viewed side.row)) side.joints.now.right_states h.0.right_states h.1.packed to
       inside
 
 module _ (f : Body) (before behind : Box) (values : List ℤ) (i : ℕ) (v : ℤ) (row : AnyRow) (side : BackSide) (ahead : IsRowOf f before values row)
@@ -227,32 +227,33 @@ module _ (f : Body) (before behind : Box) (values : List ℤ) (i : ℕ) (v : ℤ
       ahead.packed e
 
   pub right_place : (o : Option Pair) → IsSide o behind values side →
-      HasPlace (lanes_of side.row.now) side.joints.now.right_states i (columns side.row.now)
+      HasPlace (lanes_of (viewed side.row)) side.joints.now.right_states i (columns (viewed side.row))
   right_place None h = absurd h
   right_place (Some p) h =
-      place_there (lanes_of side.row.now) p.reverse behind values i v (columns side.row.now) side.joints.now.right_states h.0.right_states h.1.packed e
+      place_there (lanes_of (viewed side.row)) p.reverse behind values i v (columns (viewed side.row)) side.joints.now.right_states h.0.right_states
+      h.1.packed e
 
 -- with what is told there
 
 module _ (asked : Question) (f : Body) (place : ℕ) (cells : Box) (values : List ℤ) (i : ℕ) (v : ℤ) (row : AnyRow) (side : BackSide)
-    (same : form_of side.row.now ≡ form_of row) (ahead : IsRowOf f (cells_before place cells) values row) (e : slice_get values i ≡ Some v) (n : ℕ)
+    (same : form_of (viewed side.row) ≡ form_of row) (ahead : IsRowOf f (cells_before place cells) values row) (e : slice_get values i ≡ Some v) (n : ℕ)
     (is_n : n ≡ length cells) (served : IsServed (form_sides (form_of row)) f.mark n asked) where
   split_found : (p : Pair) → IsPairOf f (Some p) → p.forward.wide ≡ is_wide p → IsSide (Some p) (cells_after place cells) values side →
-      FindsAlike asked (glued_between p row side.row.now i v n) (split_at f (Some p) place cells v)
+      FindsAlike asked (glued_between p row (viewed side.row) i v n) (split_at f (Some p) place cells v)
   split_found p is width h =
       let ls = hulls_at f (cells_before place cells) v in let rs = back_hulls (Some p) (cells_after place cells) v in
       let m = length p.reverse.states in let all = span_of_all (glued_all (Some p) ls rs v n m (length f.states)) in
-      subst (FindsAlike asked (glued_between p row side.row.now i v n))
+      subst (FindsAlike asked (glued_between p row (viewed side.row) i v n))
       (split_one f (Some p) place cells v v ls rs n m all refl refl refl is_n refl refl)
-      (glued_by asked f (cells_before place cells) (cells_after place cells) values i v e p n is width row side.row.now same ahead h.1 served)
+      (glued_by asked f (cells_before place cells) (cells_after place cells) values i v e p n is width row (viewed side.row) same ahead h.1 served)
 
   pub never_there : (o : Option Pair) → IsPairOf f o → ((p : Pair) → o ≡ Some p → p.forward.wide ≡ is_wide p) →
       IsSide o (cells_after place cells) values side →
-      ((p : Pair) → AreJoints p side.joints.now → (x : ℤ) → Excludes asked (glued_between p row side.row.now i x n) → ⊥) →
+      ((p : Pair) → AreJoints p side.joints.now → (x : ℤ) → Excludes asked (glued_between p row (viewed side.row) i x n) → ⊥) →
       Excludes asked (split_at f o place cells v) → ⊥
   never_there None is width h told nothing_has = absurd h
   never_there (Some p) is width h told nothing_has =
-      let glued = glued_between p row side.row.now i v n in let split = split_at f (Some p) place cells v in
+      let glued = glued_between p row (viewed side.row) i v n in let split = split_at f (Some p) place cells v in
       told p h.0 v (excludes_found asked split glued (finds_back asked glued split (split_found p is (width p refl) h)) nothing_has)
 
 -- a span with the glued span is an answer
@@ -287,29 +288,29 @@ last_found s o a place cells values i v row n part is e rules served is_n is_par
     h
 
 module _ (s : SoFar) (f : Body) (place : ℕ) (cells : Box) (values : List ℤ) (i : ℕ) (v : ℤ) (row : AnyRow) (side : BackSide)
-    (same : form_of side.row.now ≡ form_of row) (ahead : IsRowOf f (cells_before place cells) values row) (e : slice_get values i ≡ Some v) (n : ℕ)
+    (same : form_of (viewed side.row) ≡ form_of row) (ahead : IsRowOf f (cells_before place cells) values row) (e : slice_get values i ≡ Some v) (n : ℕ)
     (is_n : n ≡ length cells) (served : IsServed (form_sides (form_of row)) f.mark n s.asked) (w : ℤ) (is_w : w ≡ v) where
   there_found : (p : Pair) → IsPairOf f (Some p) → p.forward.wide ≡ is_wide p → IsSide (Some p) (cells_after place cells) values side →
-      FindsAlike s.asked (glued_between p row side.row.now i w n) (split_at f (Some p) place cells v)
+      FindsAlike s.asked (glued_between p row (viewed side.row) i w n) (split_at f (Some p) place cells v)
   there_found p is width h =
-      subst (λ x. FindsAlike s.asked (glued_between p row side.row.now i x n) (split_at f (Some p) place cells v)) (sym is_w)
+      subst (λ x. FindsAlike s.asked (glued_between p row (viewed side.row) i x n) (split_at f (Some p) place cells v)) (sym is_w)
       (split_found s.asked f place cells values i v row side same ahead e n is_n served p is width h)
 
   pub none_told : (o : Option Pair) → IsPairOf f o → ((p : Pair) → o ≡ Some p → p.forward.wide ≡ is_wide p) →
       IsSide o (cells_after place cells) values side →
-      ((p : Pair) → AreJoints p side.joints.now → IsAnswer (Excludes s.asked) (span_hull s.span (glued_between p row side.row.now i w n)) None) →
+      ((p : Pair) → AreJoints p side.joints.now → IsAnswer (Excludes s.asked) (span_hull s.span (glued_between p row (viewed side.row) i w n)) None) →
       WithParts s (split_at f o place cells v ∷ []) None
   none_told None is width h told = absurd h
   none_told (Some p) is width h told =
-      none_by s (glued_between p row side.row.now i w n) (split_at f (Some p) place cells v) (there_found p is (width p refl) h) (told p h.0)
+      none_by s (glued_between p row (viewed side.row) i w n) (split_at f (Some p) place cells v) (there_found p is (width p refl) h) (told p h.0)
 
   pub some_told : (o : Option Pair) (t : Span) → IsPairOf f o → ((p : Pair) → o ≡ Some p → p.forward.wide ≡ is_wide p) →
       IsSide o (cells_after place cells) values side →
-      ((p : Pair) → AreJoints p side.joints.now → IsAnswer (Excludes s.asked) (span_hull s.span (glued_between p row side.row.now i w n)) (Some t)) →
+      ((p : Pair) → AreJoints p side.joints.now → IsAnswer (Excludes s.asked) (span_hull s.span (glued_between p row (viewed side.row) i w n)) (Some t)) →
       WithParts s (split_at f o place cells v ∷ []) (Some (record { asked = s.asked; span = t }))
   some_told None t is width h told = absurd h
   some_told (Some p) t is width h told =
-      some_by s (glued_between p row side.row.now i w n) (split_at f (Some p) place cells v) t (there_found p is (width p refl) h) (told p h.0)
+      some_by s (glued_between p row (viewed side.row) i w n) (split_at f (Some p) place cells v) t (there_found p is (width p refl) h) (told p h.0)
 
 -- of a machine with a reverse automaton
 

@@ -23,7 +23,7 @@ use Rattle.ts_filter.specs.declared.cell_hulls.BackSide.{BackSide}
 use Rattle.ts_filter.specs.declared.planned.Planned.{Planned}
 use Rattle.ts_filter.specs.declared.question.Question.{Question}
 use Rattle.ts_filter.specs.Alike.{IsServed}
-use Rattle.ts_filter.specs.AnyRows.{form_of, form_sides}
+use Rattle.ts_filter.specs.AnyRows.{form_of, form_sides, viewed}
 use Rattle.ts_filter.specs.Boxes.{Box, values_at}
 use Rattle.ts_filter.specs.CellHulls.{AreHulls, HasForm, HasHulls, IsBackSide, IsSide, seen_after, seen_before}
 use Rattle.ts_filter.specs.KnownRows.{KnownRows, AreKnown, AreRowsOf, StillKnown, HasJoints, HasRows, IsPlannedBack, ends_of}
@@ -34,11 +34,11 @@ use Rattle.ts_filter.proofs.PackedStacks.{packed_row}
 
 -- a row that is known, with how it is glued
 packed_side : (o : Option Pair) (p : Planned) (behind : Box) (values : List ℤ) (side : BackSide) → IsPlannedBack o p → HasJoints o (Some side.joints.now) →
-    HasStates p side.row.now → OfReverse o (λ r. hulls_in p.states side.row.now ≡ seen_row (form_sides p.form) (row_of r behind values)) →
+    HasStates p (viewed side.row) → OfReverse o (λ r. hulls_in p.states (viewed side.row) ≡ seen_row (form_sides p.form) (row_of r behind values)) →
     IsSide o behind values side
 packed_side None p behind values side is joints states hulls = absurd hulls
 packed_side (Some m) p behind values side is joints states hulls =
-    (joints, packed_row m.reverse p behind values side.row.now is states hulls)
+    (joints, packed_row m.reverse p behind values (viewed side.row) is states hulls)
 
 -- where it isn't known how the automata are glued, there is only one
 pub one_automaton : (o : Option Pair) → HasJoints o None → o ≡ None
@@ -88,30 +88,32 @@ module _ (b : Box) (t : KnownRows) (k : ℕ) (h : HasHulls t.machine k b) where
         let there = rows.behind (omega (arith, lt, rest)) in omega (arith, there, rest)
 
     pub back_side_of : (p : Planned) (side : BackSide) → p.form ≡ t.form → IsPlannedBack t.machine.pair p → HasJoints t.machine.pair (Some side.joints.now) →
-        HasStates p side.row.now → (k ≡ last_looked t.machine.window (length b) → ⊥) →
-        hulls_in p.states side.row.now ≡ get_or t.behind (last_looked t.machine.window (length b) - k) [] → IsBackSide t.machine k b side
+        HasStates p (viewed side.row) → (k ≡ last_looked t.machine.window (length b) → ⊥) →
+        hulls_in p.states (viewed side.row) ≡ get_or t.behind (last_looked t.machine.window (length b) - k) [] → IsBackSide t.machine k b side
     back_side_of p side form planned joints states below is =
         let rest = place_behind t.machine k b h in
         let place = place_in t.machine.window k in let cells = looked_at t.machine.window b in
         let there = behind_inside below in
         packed_side t.machine.pair p (seen_after t.machine k b) (values_at k b) side planned joints states
         (subst
-        (λ f. OfReverse t.machine.pair (λ r. hulls_in p.states side.row.now ≡ seen_row (form_sides f) (row_of r (seen_after t.machine k b) (values_at k b))))
+        (λ f. OfReverse t.machine.pair
+        (λ r. hulls_in p.states (viewed side.row) ≡ seen_row (form_sides f) (row_of r (seen_after t.machine k b) (values_at k b))))
         (sym form)
-        (subst (λ vs. OfReverse t.machine.pair (λ r. hulls_in p.states side.row.now ≡ seen_row (ends_of t) (row_of r (seen_after t.machine k b) vs)))
+        (subst (λ vs. OfReverse t.machine.pair (λ r. hulls_in p.states (viewed side.row) ≡ seen_row (ends_of t) (row_of r (seen_after t.machine k b) vs)))
         (inner_values t.machine k b h)
-        (behind_there t.machine.pair (ends_of t) cells t.behind (hulls_in p.states side.row.now) [] place (λ e. below (h.last e)) known.behind (place_from t.machine k b h)
+        (behind_there t.machine.pair (ends_of t) cells t.behind (hulls_in p.states (viewed side.row)) [] place (λ e. below (h.last e)) known.behind
+        (place_from t.machine k b h)
         (place_to t.machine k b h) (omega (arith, there, rest)) (is ∙ sym (ap (λ i. get_or t.behind i []) rest)))))
 
     -- the other side has the form of the row
-    same_forms : (row : AnyRow) (back : Option BackSide) → form_of row ≡ t.form → IfSome back (λ side. form_of side.row.now ≡ t.form) → HasForm back row
+    same_forms : (row : AnyRow) (back : Option BackSide) → form_of row ≡ t.form → IfSome back (λ side. form_of (viewed side.row) ≡ t.form) → HasForm back row
     same_forms row None form forms = tt
     same_forms row (Some side) form forms = forms ∙ sym form
 
     pub hulls_are : (p : Planned) (row : AnyRow) (back : Option BackSide) → p.form ≡ t.form → IsPlanned t.machine.forward p → HasStates p row →
         hulls_in p.states row ≡ get_or t.ahead (k - first_looked t.machine.window) [] →
         MatchOption back (k ≡ last_looked t.machine.window (length b)) (IsBackSide t.machine k b) →
-        IfSome back (λ side. form_of side.row.now ≡ t.form) → AreHulls t.machine b k row back
+        IfSome back (λ side. form_of (viewed side.row) ≡ t.form) → AreHulls t.machine b k row back
     hulls_are p row back form planned states is behind forms =
         let at = place_is t.machine k b h in let first = (ends_inside t.machine.window (length b) h.looks).0 in let from = h.from in
         let same : k - first_looked t.machine.window ≡ place_in t.machine.window k - 1 = omega (arith, at, first, from) in

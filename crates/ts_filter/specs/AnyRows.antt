@@ -8,9 +8,12 @@ use Rattle.ts_glue.specs.Pairs.{Pair}
 use Rattle.ts_sweep.specs.declared.packed.PackedHull.{PackedHull}
 use Rattle.ts_sweep.specs.Sides.{Sides, has_wide, sides}
 use Rattle.ts_meet.specs.Meets.{glued_hull}
+use Rattle.ts_row.specs.Rows.{columns_part}
 use Rattle.ts_bound.specs.PackedRows.{IsPackedRow}
 use Rattle.ts_filter.specs.declared.any_row.AnyRow.{AnyRow}
 use Rattle.ts_filter.specs.declared.any_row.AnyRow.TheVariants.{Narrow, Upper, Lower, Wide}
+use Rattle.ts_filter.specs.declared.any_row.AnyView.{AnyView}
+use Rattle.ts_filter.specs.declared.any_row.AnyView.TheVariants.{Narrow as NarrowView, Upper as UpperView, Lower as LowerView, Wide as WideView}
 use Rattle.ts_filter.specs.declared.any_row.Form.{Form}
 use Rattle.ts_filter.specs.declared.any_row.Form.TheVariants.{Narrow as NarrowForm, Upper as UpperForm, Lower as LowerForm, Wide as WideForm}
 
@@ -57,6 +60,20 @@ columns (Narrow row) = row
 columns (Upper row) = row
 columns (Lower row) = row
 columns (Wide row) = row
+
+-- the row of the hulls that are lent
+abbrev pub viewed : AnyView → AnyRow
+viewed (NarrowView row) = Narrow row
+viewed (UpperView row) = Upper row
+viewed (LowerView row) = Lower row
+viewed (WideView row) = Wide row
+
+-- the row of the hulls at the places from `from` up to `to` of each of its columns
+abbrev pub row_part : (from to : ℕ) → AnyRow → AnyRow
+row_part from to (Narrow row) = Narrow (columns_part from to row)
+row_part from to (Upper row) = Upper (columns_part from to row)
+row_part from to (Lower row) = Lower (columns_part from to row)
+row_part from to (Wide row) = Wide (columns_part from to row)
 
 -- the columns without the hulls at the places from `from` up to `to`
 abbrev pub columns_without : {X : Type 0} → (from to : ℕ) → List (List X) → List (List X)

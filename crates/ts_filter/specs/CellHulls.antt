@@ -12,7 +12,7 @@ use Rattle.ts_filter.specs.declared.any_row.AnyRow.{AnyRow}
 use Rattle.ts_filter.specs.declared.cell_hulls.BackSide.{BackSide}
 use Rattle.ts_filter.specs.declared.question.Question.{Question}
 use Rattle.ts_filter.specs.Alike.{IsServed}
-use Rattle.ts_filter.specs.AnyRows.{IsRowOf, form_of}
+use Rattle.ts_filter.specs.AnyRows.{IsRowOf, form_of, viewed}
 use Rattle.ts_filter.specs.Boxes.{Box, values_at}
 use Rattle.ts_filter.specs.Question.{Excludes}
 
@@ -52,13 +52,13 @@ IsAheadRow a k b row = IsRowOf a.forward (seen_before a k b) (values_at k b) row
 -- a row of the other side has the same form
 abbrev pub HasForm : Option BackSide → AnyRow → Type 0
 HasForm None row = Unit {0}
-HasForm (Some side) row = form_of side.row.now ≡ form_of row
+HasForm (Some side) row = form_of (viewed side.row) ≡ form_of row
 
 -- a row of the reverse automaton of a pair, of a cell with these values before which it reads these cells, with how the
 -- pair is glued
 abbrev pub IsSide : Option Pair → Box → List ℤ → BackSide → Type 0
 IsSide None behind values side = ⊥
-IsSide (Some p) behind values side = AreJoints p side.joints.now × IsRowOf p.reverse behind values side.row.now
+IsSide (Some p) behind values side = AreJoints p side.joints.now × IsRowOf p.reverse behind values (viewed side.row)
 
 -- the row is that of cell k of the reverse automaton, which reads the cells after it, with how the pair is glued
 abbrev pub IsBackSide : Automata → ℕ → Box → BackSide → Type 0

@@ -1,6 +1,7 @@
 //! Packed rows of automata of either width, with both ends of each register or with one alone: the one module that
 //! tells these forms apart, once a row and once a value of a cell.
 
+ghost use Rattle.std.specs.List.{All};
 ghost use Rattle.std.specs.Prelude.{◌≡◌, ◌≤◌, ℤ, List, [], ◌∷◌, IfOk, IsTrue, length};
 ghost use Rattle.ts_base.specs.Limits.{IsCellValue};
 ghost use Rattle.ts_base.specs.Spans.{none_span, span_hull};
@@ -11,7 +12,9 @@ ghost use Rattle.ts_filter.specs.AnyRows.{
   form_of,
   glued_between,
   lanes_of,
+  row_part,
   row_without,
+  viewed,
 };
 ghost use Rattle.ts_filter.specs.Question.{Excludes};
 ghost use Rattle.ts_glue.specs.Pairs.{Pair};
@@ -30,7 +33,7 @@ use ts_automaton::Automaton;
 use ts_base::{Memory, Span};
 use ts_bound::{first_packed_row, next_packed_row};
 use ts_meet::{Joints, Spot, asked_at, finish_at, settled_to};
-use ts_row::{Cell, PackedRow, Plan};
+use ts_row::{Cell, PackedRow, Plan, RowView};
 use ts_sweep::packed::{LOWER, UPPER};
 
 /// How a hull is packed: with both ends of the registers of a narrow automaton, with one end alone, or with both ends
@@ -50,6 +53,15 @@ pub(crate) enum AnyRow {
     Upper(PackedRow<UPPER>),
     Lower(PackedRow<LOWER>),
     Wide(PackedRow<10>),
+}
+
+/// The hulls of a row at some of its places, lent, in the row's form.
+#[derive(Drop)]
+pub(crate) enum AnyView<'a> {
+    Narrow(RowView<'a, 6>),
+    Upper(RowView<'a, UPPER>),
+    Lower(RowView<'a, LOWER>),
+    Wide(RowView<'a, 10>),
 }
 
 impl AnyRow {
@@ -74,6 +86,20 @@ impl AnyRow {
             AnyRow::Upper(_) => Form::Upper,
             AnyRow::Lower(_) => Form::Lower,
             AnyRow::Wide(_) => Form::Wide,
+        }
+    }
+
+    /// The hulls at the places from `from` up to `to` of all states.
+    pub(crate) fn part(&self, from: usize, to: usize) -> AnyView<'_>
+        requires order { from ≤ to }
+        requires inside { All (λ column. to ≤ length column) (columns self.now) }
+        ensures { viewed result ≡ row_part from to self.now }
+    {
+        match self {
+            AnyRow::Narrow(row) => AnyView::Narrow(row.part(from, to)),
+            AnyRow::Upper(row) => AnyView::Upper(row.part(from, to)),
+            AnyRow::Lower(row) => AnyView::Lower(row.part(from, to)),
+            AnyRow::Wide(row) => AnyView::Wide(row.part(from, to)),
         }
     }
 
@@ -116,32 +142,33 @@ impl AnyRow {
         a: &Automaton,
         plan: &Plan,
         values: Cell<'_>,
-        before: &AnyRow,
+        before: &AnyView<'_>,
         next_values: Cell<'_>,
     ) -> Result<AnyRow, Memory>
         requires width { IsFormOf a.now.wide (form_of self) }
-        requires form_before { form_of before.now ≡ form_of self }
+        requires form_before { form_of (viewed before.now) ≡ form_of self }
         requires plan { IsPlanOf a.now plan.now }
-        requires row { IsRow (lanes_of before.now) (length a.now.states) (count_in values) (columns before.now) }
+        requires row { IsRow (lanes_of (viewed before.now)) (length a.now.states) (count_in values)
+            (columns (viewed before.now)) }
         ensures form { IfOk result (λ row. form_of row ≡ form_of self) }
         ensures row { IfOk result (λ row. (cells : List (List ℤ)) →
-            IsRowOf a.now cells values.entry.values.now before.now →
+            IsRowOf a.now cells values.entry.values.now (viewed before.now) →
             IsRowOf a.now (values.entry.values.now ∷ cells) next_values.entry.values.now row) }
     {
         match (self, before) {
-            (AnyRow::Narrow(mut row), AnyRow::Narrow(before)) => {
+            (AnyRow::Narrow(mut row), AnyView::Narrow(before)) => {
                 next_packed_row(alloc, a, plan, values, before, next_values, &mut row)?;
                 Ok(AnyRow::Narrow(row))
             }
-            (AnyRow::Upper(mut row), AnyRow::Upper(before)) => {
+            (AnyRow::Upper(mut row), AnyView::Upper(before)) => {
                 next_packed_row(alloc, a, plan, values, before, next_values, &mut row)?;
                 Ok(AnyRow::Upper(row))
             }
-            (AnyRow::Lower(mut row), AnyRow::Lower(before)) => {
+            (AnyRow::Lower(mut row), AnyView::Lower(before)) => {
                 next_packed_row(alloc, a, plan, values, before, next_values, &mut row)?;
                 Ok(AnyRow::Lower(row))
             }
-            (AnyRow::Wide(mut row), AnyRow::Wide(before)) => {
+            (AnyRow::Wide(mut row), AnyView::Wide(before)) => {
                 next_packed_row(alloc, a, plan, values, before, next_values, &mut row)?;
                 Ok(AnyRow::Wide(row))
             }
@@ -161,34 +188,36 @@ impl AnyRow {
             AnyRow::Wide(row) => row.take_out(from, to),
         }
     }
+}
 
+impl<'a> AnyView<'a> {
     /// The hull of the finish spans of all states, at place `i` of the values of the last cell, of a series of `n`
     /// cells.
     pub(crate) fn finish(&self, a: &Automaton, i: usize, n: u32) -> Span
-        requires width { IsFormOf a.now.wide (form_of self.now) }
-        requires place { HasPlace (lanes_of self.now) (length a.now.states) i (columns self.now) }
-        ensures { result ≡ finish_hull (lanes_of self.now) a.now (columns self.now) i n }
+        requires width { IsFormOf a.now.wide (form_of (viewed self.now)) }
+        requires place { HasPlace (lanes_of (viewed self.now)) (length a.now.states) i (columns (viewed self.now)) }
+        ensures { result ≡ finish_hull (lanes_of (viewed self.now)) a.now (columns (viewed self.now)) i n }
     {
         match self {
-            AnyRow::Narrow(row) => finish_at(a, row, i, n),
-            AnyRow::Upper(row) => finish_at(a, row, i, n),
-            AnyRow::Lower(row) => finish_at(a, row, i, n),
-            AnyRow::Wide(row) => finish_at(a, row, i, n),
+            AnyView::Narrow(row) => finish_at(a, row, i, n),
+            AnyView::Upper(row) => finish_at(a, row, i, n),
+            AnyView::Lower(row) => finish_at(a, row, i, n),
+            AnyView::Wide(row) => finish_at(a, row, i, n),
         }
     }
 }
 
 /// Whether two rows of automata with `states` states have the same form and the same hulls.
-pub(crate) fn are_same(a: &AnyRow, b: &AnyRow, states: u8) -> bool
-    requires first { length (columns a.now) ≡ states }
-    requires second { length (columns b.now) ≡ states }
-    ensures { IsTrue result → a.now ≡ b.now }
+pub(crate) fn are_same(a: &AnyView<'_>, b: &AnyView<'_>, states: u8) -> bool
+    requires first { length (columns (viewed a.now)) ≡ states }
+    requires second { length (columns (viewed b.now)) ≡ states }
+    ensures { IsTrue result → viewed a.now ≡ viewed b.now }
 {
     match (a, b) {
-        (AnyRow::Narrow(a), AnyRow::Narrow(b)) => are_same_columns(a, b, states),
-        (AnyRow::Upper(a), AnyRow::Upper(b)) => are_same_columns(a, b, states),
-        (AnyRow::Lower(a), AnyRow::Lower(b)) => are_same_columns(a, b, states),
-        (AnyRow::Wide(a), AnyRow::Wide(b)) => are_same_columns(a, b, states),
+        (AnyView::Narrow(a), AnyView::Narrow(b)) => are_same_columns(a, b, states),
+        (AnyView::Upper(a), AnyView::Upper(b)) => are_same_columns(a, b, states),
+        (AnyView::Lower(a), AnyView::Lower(b)) => are_same_columns(a, b, states),
+        (AnyView::Wide(a), AnyView::Wide(b)) => are_same_columns(a, b, states),
         _ => false,
     }
 }
@@ -199,31 +228,34 @@ pub(crate) fn asked_between(
     asked: Question<'_>,
     so_far: Span,
     joints: &Joints,
-    left: &AnyRow,
-    right: &AnyRow,
+    left: &AnyView<'_>,
+    right: &AnyView<'_>,
     spot: Spot,
 ) -> Option<Span>
-    requires form { form_of right.now ≡ form_of left.now }
-    requires width { IsFormOf joints.now.wide (form_of left.now) }
+    requires form { form_of (viewed right.now) ≡ form_of (viewed left.now) }
+    requires width { IsFormOf joints.now.wide (form_of (viewed left.now)) }
     requires whole { span_hull so_far none_span ≡ so_far }
     requires known { Excludes asked so_far }
-    requires left { HasPlace (lanes_of left.now) joints.now.left_states spot.place (columns left.now) }
-    requires right { HasPlace (lanes_of right.now) joints.now.right_states spot.place (columns right.now) }
+    requires left { HasPlace (lanes_of (viewed left.now)) joints.now.left_states spot.place
+        (columns (viewed left.now)) }
+    requires right { HasPlace (lanes_of (viewed right.now)) joints.now.right_states spot.place
+        (columns (viewed right.now)) }
     requires value { IsCellValue spot.value }
     ensures { (p : Pair) → AreJoints p joints.now → IsAnswer (Excludes asked.entry)
-        (span_hull so_far (glued_between p left.now right.now spot.place spot.value spot.cells)) result }
+        (span_hull so_far (glued_between p (viewed left.now) (viewed right.now) spot.place spot.value spot.cells))
+        result }
 {
     match (left, right) {
-        (AnyRow::Narrow(left), AnyRow::Narrow(right)) => asked_at(
+        (AnyView::Narrow(left), AnyView::Narrow(right)) => asked_at(
             asked, so_far, joints, left, right, spot,
         ),
-        (AnyRow::Upper(left), AnyRow::Upper(right)) => asked_at(
+        (AnyView::Upper(left), AnyView::Upper(right)) => asked_at(
             asked, so_far, joints, left, right, spot,
         ),
-        (AnyRow::Lower(left), AnyRow::Lower(right)) => asked_at(
+        (AnyView::Lower(left), AnyView::Lower(right)) => asked_at(
             asked, so_far, joints, left, right, spot,
         ),
-        (AnyRow::Wide(left), AnyRow::Wide(right)) => asked_at(
+        (AnyView::Wide(left), AnyView::Wide(right)) => asked_at(
             asked, so_far, joints, left, right, spot,
         ),
         _ => unreachable!(),
@@ -235,33 +267,33 @@ pub(crate) fn asked_between(
 pub(crate) fn settled_between(
     asked: Question<'_>,
     joints: &Joints,
-    left: &AnyRow,
-    right: &AnyRow,
+    left: &AnyView<'_>,
+    right: &AnyView<'_>,
     cells: u32,
     from: usize,
     to: usize,
 ) -> usize
-    requires form { form_of right.now ≡ form_of left.now }
-    requires width { IsFormOf joints.now.wide (form_of left.now) }
-    requires left { HavePlaces (lanes_of left.now) joints.now.left_states to (columns left.now) }
-    requires right { HavePlaces (lanes_of right.now) joints.now.right_states to (columns right.now) }
+    requires form { form_of (viewed right.now) ≡ form_of (viewed left.now) }
+    requires width { IsFormOf joints.now.wide (form_of (viewed left.now)) }
+    requires left { HavePlaces (lanes_of (viewed left.now)) joints.now.left_states to (columns (viewed left.now)) }
+    requires right { HavePlaces (lanes_of (viewed right.now)) joints.now.right_states to (columns (viewed right.now)) }
     requires order { from ≤ to }
     ensures from { from ≤ result }
     ensures to { result ≤ to }
     ensures settled { (p : Pair) → AreJoints p joints.now → Between from result (λ i. (x : ℤ) →
-        Excludes asked.entry (glued_between p left.now right.now i x cells) → ⊥) }
+        Excludes asked.entry (glued_between p (viewed left.now) (viewed right.now) i x cells) → ⊥) }
 {
     match (left, right) {
-        (AnyRow::Narrow(left), AnyRow::Narrow(right)) => settled_to(
+        (AnyView::Narrow(left), AnyView::Narrow(right)) => settled_to(
             asked, joints, left, right, cells, from, to,
         ),
-        (AnyRow::Upper(left), AnyRow::Upper(right)) => settled_to(
+        (AnyView::Upper(left), AnyView::Upper(right)) => settled_to(
             asked, joints, left, right, cells, from, to,
         ),
-        (AnyRow::Lower(left), AnyRow::Lower(right)) => settled_to(
+        (AnyView::Lower(left), AnyView::Lower(right)) => settled_to(
             asked, joints, left, right, cells, from, to,
         ),
-        (AnyRow::Wide(left), AnyRow::Wide(right)) => settled_to(
+        (AnyView::Wide(left), AnyView::Wide(right)) => settled_to(
             asked, joints, left, right, cells, from, to,
         ),
         _ => unreachable!(),

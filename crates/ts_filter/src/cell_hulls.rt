@@ -12,14 +12,14 @@ ghost use Rattle.ts_filter.specs.Ends.{best_end};
 ghost use Rattle.ts_filter.specs.declared.question.Question.TheVariants.{Ranks};
 ghost use Rattle.ts_filter.specs.Boxes.{values_at};
 ghost use Rattle.ts_filter.specs.Alike.{IsServed};
-ghost use Rattle.ts_filter.specs.AnyRows.{form_of, form_sides};
+ghost use Rattle.ts_filter.specs.AnyRows.{form_of, form_sides, viewed};
 ghost use Rattle.ts_filter.specs.CellHulls.{AreMet, HasHulls, IsAheadRow, IsBackSide, Serves};
 ghost use Rattle.ts_filter.specs.SoFar.{IsSoFar, IsWholeSpan, WithParts};
 ghost use Rattle.ts_filter.specs.TermDrops.{IsFirstRefuting};
 ghost use Rattle.ts_glue.specs.Machines.{forward_of, pair_of, window_of};
 ghost use Rattle.ts_meet.specs.Settled.{Between};
 
-use crate::any_row::{AnyRow, asked_between, settled_between};
+use crate::any_row::{AnyView, asked_between, settled_between};
 use crate::excluded::best_end;
 use crate::question::Question;
 use crate::so_far::SoFar;
@@ -36,9 +36,9 @@ use ts_meet::{Joints, Spot};
 const MANY_PLACES: u64 = 16;
 
 /// The row of a cell of the reverse automaton, and how it is glued to the forward one.
-#[derive(Clone, Copy)]
+#[derive(Drop)]
 pub(crate) struct BackSide<'a> {
-    pub(crate) row: &'a AnyRow,
+    pub(crate) row: AnyView<'a>,
     pub(crate) joints: &'a Joints,
 }
 
@@ -49,7 +49,7 @@ pub(crate) struct CellHulls<'a> {
     pub(crate) machine: &'a Machine,
     pub(crate) cells: &'a Boxed,
     pub(crate) cell: u32,
-    pub(crate) row: &'a AnyRow,
+    pub(crate) row: AnyView<'a>,
     pub(crate) back: Option<BackSide<'a>>,
 }
 
@@ -57,7 +57,7 @@ impl<'a> Model for CellHulls<'a> {
     ghost use Rattle.std.specs.Coded.{codes};
     ghost use Rattle.ts_automaton.specs.Codes.{formula_code};
     ghost use Rattle.ts_bound.specs.TermSpans.{automata_of};
-    ghost use Rattle.ts_filter.specs.AnyRows.{form_of, form_sides};
+    ghost use Rattle.ts_filter.specs.AnyRows.{form_of, form_sides, viewed};
     ghost use Rattle.ts_filter.specs.CellHulls.{AreHulls, AtCell, at_cell};
 
     ghost Value = { AtCell };
@@ -65,9 +65,9 @@ impl<'a> Model for CellHulls<'a> {
     ghost coded = { Prim.hlevel (codes, formula_code) };
 
     ghost view = { λ h. at_cell (automata_of h.machine.now) h.cells.now.present h.cell
-        (form_sides (form_of h.row.now)) };
+        (form_sides (form_of (viewed h.row))) };
 
-    ghost invariant = { λ h. AreHulls (automata_of h.machine.now) h.cells.now.present h.cell h.row.now
+    ghost invariant = { λ h. AreHulls (automata_of h.machine.now) h.cells.now.present h.cell (viewed h.row)
         h.back };
 }
 
@@ -203,11 +203,11 @@ impl<'a> CellHulls<'a> {
         ensures to { result ≤ to }
         ensures met { AreMet asked.entry self.now from result }
     {
-        match self.back {
+        match &self.back {
             Some(back) => met_to(
                 asked,
                 self.machine,
-                self.row,
+                &self.row,
                 back,
                 self.cells,
                 self.cell,
@@ -241,11 +241,11 @@ impl<'a> CellHulls<'a> {
         requires value { slice_get (values_at self.now.cell self.now.cells) i ≡ Some v }
         ensures { WithParts so_far.entry (value_span self.now.machine self.now.cell self.now.cells v ∷ []) result }
     {
-        match self.back {
+        match &self.back {
             Some(back) => split_value(
                 so_far,
                 self.machine,
-                self.row,
+                &self.row,
                 back,
                 self.cells,
                 self.cell,
@@ -254,7 +254,7 @@ impl<'a> CellHulls<'a> {
             ),
             None => {
                 machine_is_whole(self.machine);
-                last_value(so_far, self.machine, self.row, self.cells, self.cell, i, v)
+                last_value(so_far, self.machine, &self.row, self.cells, self.cell, i, v)
             }
         }
     }
@@ -265,18 +265,18 @@ impl<'a> CellHulls<'a> {
 fn last_value<'a>(
     so_far: SoFar<'a>,
     m: &Machine,
-    row: &AnyRow,
+    row: &AnyView<'_>,
     cells: &Boxed,
     k: u32,
     i: u64,
     v: i64,
 ) -> Option<SoFar<'a>>
-    requires serves { IsServed (form_sides (form_of row.now)) (forward_of m.now).mark
+    requires serves { IsServed (form_sides (form_of (viewed row.now))) (forward_of m.now).mark
         (count_looked (window_of m.now) (length cells.now.present)) so_far.asked }
     requires whole { AreAutomata (automata_of m.now) }
     requires known { IsSoFar so_far }
     requires hulls { HasHulls (automata_of m.now) k cells.now.present }
-    requires row { IsAheadRow (automata_of m.now) k cells.now.present row.now }
+    requires row { IsAheadRow (automata_of m.now) k cells.now.present (viewed row.now) }
     requires value { slice_get (values_at k cells.now.present) i ≡ Some v }
     ensures { WithParts so_far.entry (last_at (forward_of m.now)
         (place_in (window_of m.now) k) (looked_at (window_of m.now) cells.now.present) v ∷ []) result }
@@ -290,20 +290,20 @@ fn last_value<'a>(
 fn split_value<'a>(
     so_far: SoFar<'a>,
     m: &Machine,
-    row: &AnyRow,
-    back: BackSide<'_>,
+    row: &AnyView<'_>,
+    back: &BackSide<'_>,
     cells: &Boxed,
     k: u32,
     i: u64,
     v: i64,
 ) -> Option<SoFar<'a>>
-    requires serves { IsServed (form_sides (form_of row.now)) (forward_of m.now).mark
+    requires serves { IsServed (form_sides (form_of (viewed row.now))) (forward_of m.now).mark
         (count_looked (window_of m.now) (length cells.now.present)) so_far.asked }
     requires known { IsSoFar so_far }
     requires hulls { HasHulls (automata_of m.now) k cells.now.present }
-    requires row { IsAheadRow (automata_of m.now) k cells.now.present row.now }
-    requires form { form_of back.row.now ≡ form_of row.now }
-    requires back { IsBackSide (automata_of m.now) k cells.now.present back }
+    requires row { IsAheadRow (automata_of m.now) k cells.now.present (viewed row.now) }
+    requires form { form_of (viewed back.now.row) ≡ form_of (viewed row.now) }
+    requires back { IsBackSide (automata_of m.now) k cells.now.present back.now }
     requires value { slice_get (values_at k cells.now.present) i ≡ Some v }
     ensures { WithParts so_far.entry (split_at (forward_of m.now) (pair_of m.now)
         (place_in (window_of m.now) k) (looked_at (window_of m.now) cells.now.present) v ∷ []) result }
@@ -314,7 +314,7 @@ fn split_value<'a>(
         value: v,
         cells: n,
     };
-    match asked_between(so_far.asked, so_far.span, back.joints, row, back.row, spot) {
+    match asked_between(so_far.asked, so_far.span, back.joints, row, &back.row, spot) {
         Some(span) => Some(SoFar {
             asked: so_far.asked,
             span,
@@ -328,19 +328,19 @@ fn split_value<'a>(
 fn met_to(
     asked: Question<'_>,
     m: &Machine,
-    row: &AnyRow,
-    back: BackSide<'_>,
+    row: &AnyView<'_>,
+    back: &BackSide<'_>,
     cells: &Boxed,
     k: u32,
     from: u64,
     to: u64,
 ) -> u64
-    requires serves { IsServed (form_sides (form_of row.now)) (forward_of m.now).mark
+    requires serves { IsServed (form_sides (form_of (viewed row.now))) (forward_of m.now).mark
         (count_looked (window_of m.now) (length cells.now.present)) asked }
-    requires form { form_of back.row.now ≡ form_of row.now }
+    requires form { form_of (viewed back.now.row) ≡ form_of (viewed row.now) }
     requires hulls { HasHulls (automata_of m.now) k cells.now.present }
-    requires row { IsAheadRow (automata_of m.now) k cells.now.present row.now }
-    requires back { IsBackSide (automata_of m.now) k cells.now.present back }
+    requires row { IsAheadRow (automata_of m.now) k cells.now.present (viewed row.now) }
+    requires back { IsBackSide (automata_of m.now) k cells.now.present back.now }
     requires order { from ≤ to }
     requires inside { to ≤ length (values_at k cells.now.present) }
     ensures from { from ≤ result }
@@ -354,7 +354,7 @@ fn met_to(
         asked,
         back.joints,
         row,
-        back.row,
+        &back.row,
         n,
         from as usize,
         to as usize,

@@ -2,13 +2,13 @@
 
 ghost use Rattle.std.specs.Prelude.{◌≡◌, ◌≤◌, IsTrue, length};
 
-use ts_row::PackedRow;
+use ts_row::RowView;
 use ts_sweep::packed::PackedHull;
 
 /// Whether two packed rows of automata with `states` states have the same hulls.
 pub(crate) fn are_same_columns<const N: usize>(
-    a: &PackedRow<N>,
-    b: &PackedRow<N>,
+    a: &RowView<'_, N>,
+    b: &RowView<'_, N>,
     states: u8,
 ) -> bool
     requires lanes { N ≤ 64 }

@@ -6,7 +6,7 @@ use Rattle.ts_bound.specs.TermSpans.{automata_of}
 use Rattle.ts_glue.specs.Machines.{forward_of, window_of}
 use Rattle.ts_meet.specs.Meets.{finish_hull}
 use Rattle.ts_filter.specs.Alike.{IsServed}
-use Rattle.ts_filter.specs.AnyRows.{IsRowOf, columns, form_of, form_sides, lanes_of}
+use Rattle.ts_filter.specs.AnyRows.{IsRowOf, columns, form_of, form_sides, lanes_of, viewed}
 use Rattle.ts_filter.specs.Boxes.{values_at}
 use Rattle.ts_filter.specs.CellHulls.{seen_before}
 use Rattle.ts_filter.proofs.Looked.{counted, counted_as}
@@ -15,7 +15,7 @@ use Rattle.ts_filter.proofs.cell_hulls.last_value.Goals as goal
 
 pub returns : goal.returns
 returns c =
-    let m = c.args.m.now in let b = c.args.cells.now.present in let values = values_at c.args.k b in let row = c.args.row.now in
+    let m = c.args.m.now in let b = c.args.cells.now.present in let values = values_at c.args.k b in let row = viewed c.args.row.now in
     let place = place_in (window_of m) c.args.k in let cells = looked_at (window_of m) b in let n = c.looked_count-n.result in
     let count : n ≡ length cells =
     counted m b c.window.result c.cells.result n c.requires.hulls.looks c.window.ensures c.cells.ensures.count c.looked_count-n.ensures in
@@ -29,9 +29,9 @@ returns c =
 pub finish-requires : goal.finish-requires
 finish-requires c =
     let b = c.args.cells.now.present in let before = seen_before (automata_of c.args.m.now) c.args.k b in let values = values_at c.args.k b in
-    let a = c.forward.result.now in let row = subst (λ (x : Body). IsRowOf x before values c.args.row.now) (sym c.forward.ensures) c.requires.row in
+    let a = c.forward.result.now in let row = subst (λ (x : Body). IsRowOf x before values (viewed c.args.row.now)) (sym c.forward.ensures) c.requires.row in
     record {
-      width = width_of_form c.args.row.now a row.width;
-      place = place_there (lanes_of c.args.row.now) a before values c.args.i c.args.v (columns c.args.row.now) (length a.states) refl row.packed
-          c.requires.value;
+      width = width_of_form (viewed c.args.row.now) a row.width;
+      place = place_there (lanes_of (viewed c.args.row.now)) a before values c.args.i c.args.v (columns (viewed c.args.row.now)) (length a.states) refl
+          row.packed c.requires.value;
     }

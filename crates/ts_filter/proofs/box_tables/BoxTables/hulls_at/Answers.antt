@@ -1,6 +1,7 @@
 use Rattle.std.proofs.Common.{ap, ◌∙◌, ◌<◌, length, sym, subst, [], get_or, ◌-◌}
 use Rattle.ts_bound.specs.TermSpans.{automata_of}
 use Rattle.ts_glue.specs.declared.machine.Machine.{Machine}
+use Rattle.ts_filter.specs.AnyRows.{viewed}
 use Rattle.ts_filter.specs.CellHulls.{AreHulls}
 use Rattle.ts_filter.specs.KnownRows.{KnownRows}
 use Rattle.ts_filter.specs.RowStacks.{IsPlanned}
@@ -17,9 +18,11 @@ row-requires c =
 pub invariant_of-result : goal.invariant_of-result
 invariant_of-result c =
     let t = c.args.self.now in let b = c.args.cells.now.present in let p = c.self.inside.ahead.planned in
-    subst (λ (m : Machine). AreHulls (automata_of m) b c.args.k c.row.result.now c.back_side.result) (sym c.get.ensures)
-    (subst (λ (u : KnownRows). AreHulls u.machine b c.args.k c.row.result.now c.back_side.result) (sym c.self.view_is)
-    (hulls_are b t c.args.k c.requires.hulls c.requires.known c.requires.there p c.row.result.now c.back_side.result (ap (λ (u : KnownRows). u.form) c.self.view_is)
+    let row = viewed c.row.result in
+    subst (λ (m : Machine). AreHulls (automata_of m) b c.args.k row c.back_side.result) (sym c.get.ensures)
+    (subst (λ (u : KnownRows). AreHulls u.machine b c.args.k row c.back_side.result) (sym c.self.view_is)
+    (hulls_are b t c.args.k c.requires.hulls c.requires.known c.requires.there p row c.back_side.result
+    (ap (λ (u : KnownRows). u.form) c.self.view_is)
     (subst (λ (u : KnownRows). IsPlanned u.machine.forward p) c.self.view_is c.self.invariant.forward) c.row.ensures.states
     (c.row.ensures.hulls ∙ ap (λ (u : KnownRows). get_or u.ahead (c.args.k - c.ends-first.result.0) []) c.self.view_is
     ∙ ap (λ first. get_or t.ahead (c.args.k - first) []) c.ends-first.ensures.first)
