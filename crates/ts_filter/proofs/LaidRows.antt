@@ -1,9 +1,9 @@
 -- Rows above those that are known: what a change leaves of them, and when they are known too.
-use Rattle.std.proofs.Common.{◌≡◌, ℕ, zero, suc, ◌+◌, ◌-◌, ◌<◌, ◌≤◌, ◌⊎◌, inl, inr, List, [], ◌∷◌, ◌++◌, length, take, drop, reverse, set, get_or, Option, Some, None, option_map, refl, sym, ap, ◌∙◌, subst, arith}
+use Rattle.std.proofs.Common.{◌≡◌, ℕ, zero, suc, ◌+◌, ◌-◌, ◌*◌, ◌<◌, ◌≤◌, ◌≢◌, ◌⊎◌, inl, inr, ℤ, List, [], ◌∷◌, ◌++◌, length, take, drop, reverse, set, get_or, Option, Some, None, option_map, refl, sym, ap, ◌∙◌, subst, arith}
 use Rattle.std.specs.Prelude.{Result, Ok, Err, OnOk, OnErr}
-use Rattle.std.specs.List.{remove_range}
+use Rattle.std.specs.List.{remove_range, slice_range}
 use Rattle.std.proofs.lemmas.Option.{same_Some}
-use Rattle.std.proofs.lemmas.List.{append_assoc, get_or_default, take_at, take_more, take_all, set_split, get_or-take, get_or-drop, get_or-append-add, get_or-reverse, length-append, length-take, length-drop, length-reverse}
+use Rattle.std.proofs.lemmas.List.{append_assoc, get_or_default, take_at, take_more, take_all, take-take, set_split, get_or-take, get_or-drop, get_or-append-add, length-append, length-take, length-drop}
 use Rattle.ts_automaton.specs.declared.regs.Hull.{Hull}
 use Rattle.ts_automaton.specs.Body.{Body}
 use Rattle.ts_base.specs.declared.range.Range.{Range}
@@ -12,19 +12,18 @@ use Rattle.ts_bound.specs.HullTables.{row_of}
 use Rattle.ts_bound.specs.PackedRows.{seen_row}
 use Rattle.ts_bound.specs.TermSpans.{Automata}
 use Rattle.ts_sweep.specs.Sides.{Sides}
-use Rattle.ts_filter.specs.declared.gone.Change.{Change}
 use Rattle.ts_filter.specs.declared.gone.Gone.{Gone}
 use Rattle.ts_filter.specs.declared.planned.Planned.{Planned}
 use Rattle.ts_filter.specs.AnyRows.{form_sides}
 use Rattle.ts_filter.specs.Boxes.{Box}
 use Rattle.ts_filter.specs.Gone.{AreLost}
-use Rattle.ts_filter.specs.KnownRows.{AreFirst, AreKnown, AreRows, AreRowsOf, AreBehind, GoOnBehind, IsChange, IsPlannedBack, KnownRows, StayKnown, StillKnown}
-use Rattle.ts_filter.specs.RowStacks.{Rows, Laid, Sight, Stack, IsFollowed, GoOn, IsPlanned, IsSound, Stands, IsOneMore, IsCut, IsKnownAt, IsLeft, IsSpliced, next_seen, no_rows, nothing_laid, rows_seen, seen_by, sight, with_row, without}
+use Rattle.ts_filter.specs.KnownRows.{AreFirst, AreKeptBehind, AreKnown, AreRows, AreRowsOf, AreBehind, GoOnBehind, KnownRows, StillKnown}
+use Rattle.ts_filter.specs.RowStacks.{AreKept, Rows, Kept, Laid, Sight, Stack, IsFilled, IsFollowed, GoOn, IsKept, IsLess, IsLessened, IsPlanned, IsSound, Stands, IsOneMore, IsCut, IsKnownAt, IsLeft, IsRestored, IsShown, IsSpliced, kept_at, next_seen, no_rows, nothing_laid, rows_seen, seen_by, sight, with_row, without}
 use Rattle.ts_domain.proofs.Sets.{nothing_in}
 use Rattle.ts_glue.specs.Pairs.{Pair}
 use Rattle.ts_model.specs.declared.model.Require.{Require}
-use Rattle.ts_filter.proofs.KnownRows.{few_known, known_at, one_more, reverse_take, row_at_place, row_on_seen, stay_first, turned_front}
-use Rattle.ts_filter.proofs.WithoutValues.{row_lost}
+use Rattle.ts_filter.proofs.KnownRows.{few_known, known_at, one_more, row_at_place, row_on_seen, stay_first}
+use Rattle.ts_filter.proofs.WithoutValues.{row_lost, row_slice}
 
 -- rows that are known
 
@@ -74,15 +73,16 @@ laid_stay a sound b later end known old new h g (inr le) is to count same =
 pub put_within : {X : Type 0} (rows : List X) (at : ℕ) (row : X) → at < length rows → set rows at row ≡ with_row at row rows
 put_within rows at row lt = let on : suc at ≡ at + 1 = omega arith in set_split rows at row lt ∙ ap (λ n. take at rows ++ row ∷ drop n rows) on
 
-above_row : (rows : Rows) (at : ℕ) (row : List Hull) (i : ℕ) → at ≤ length rows → at < i → get_or (with_row at row rows) i [] ≡ get_or rows i []
-above_row rows at row i le lt =
+pub above_row : {X : Type 0} (rows : List X) (at : ℕ) (row d : X) (i : ℕ) → at ≤ length rows → at < i →
+    get_or (with_row at row rows) i d ≡ get_or rows i d
+above_row rows at row d i le lt =
     let long : length (take at rows) ≡ at = omega (arith, length-take at rows, le) in
     let sum : length (take at rows) + suc (i - (at + 1)) ≡ i = omega (arith, long, lt) in
     let whole : at + 1 + (i - (at + 1)) ≡ i = omega (arith, lt) in
-    ap (λ j. get_or (with_row at row rows) j []) (sym sum) ∙ get_or-append-add (take at rows) (row ∷ drop (at + 1) rows) (suc (i - (at + 1))) []
-    ∙ get_or-drop (at + 1) rows (i - (at + 1)) [] ∙ ap (λ j. get_or rows j []) whole
+    ap (λ j. get_or (with_row at row rows) j d) (sym sum) ∙ get_or-append-add (take at rows) (row ∷ drop (at + 1) rows) (suc (i - (at + 1))) d
+    ∙ get_or-drop (at + 1) rows (i - (at + 1)) d ∙ ap (λ j. get_or rows j d) whole
 
-row_count : (rows : Rows) (at : ℕ) (row : List Hull) → at ≤ length rows → length (with_row at row rows) ≡ at + 1 + (length rows - (at + 1))
+pub row_count : {X : Type 0} (rows : List X) (at : ℕ) (row : X) → at ≤ length rows → length (with_row at row rows) ≡ at + 1 + (length rows - (at + 1))
 row_count rows at row le =
     let l = length-append (take at rows) (row ∷ drop (at + 1) rows) in let t = length-take at rows in let d = length-drop (at + 1) rows in
     omega (arith, l, t, d, le)
@@ -94,8 +94,8 @@ with_row_go_on a cells rows at row from next g le lt to above =
     record {
       few = omega (arith, count, few, lt);
       each = λ i l there.
-          above_row rows at row (i + 1) le (omega (arith, l, above)) ∙ g.each i (omega (arith, to, l)) (omega (arith, there, count, l, above))
-          ∙ ap (λ r. next_seen a (get_or cells i []) r (get_or cells (i + 1) [])) (sym (above_row rows at row i le (omega (arith, l, above))));
+          above_row rows at row [] (i + 1) le (omega (arith, l, above)) ∙ g.each i (omega (arith, to, l)) (omega (arith, there, count, l, above))
+          ∙ ap (λ r. next_seen a (get_or cells i []) r (get_or cells (i + 1) [])) (sym (above_row rows at row [] i le (omega (arith, l, above))));
     }
 
 -- a row that stood there before, from which the rows above go on
@@ -142,40 +142,65 @@ all_known a sound cells rows from k g le lt h is =
 
 -- the next row is made
 
+-- what is kept of the row at place n, and of all others what was kept
+
+is_place : (i n : ℕ) → (i ≡ n) ⊎ (i ≢ n)
+is_place i n = grind arith
+
+more_kept : (a : Sight) (cells : Box) (n : ℕ) (k : Kept) (old new : List Kept) → AreKept a cells old → IsKept a cells n k → kept_at new n ≡ k →
+    ((i : ℕ) → i ≢ n → kept_at new i ≡ kept_at old i) → AreKept a cells new
+more_kept a cells n k old new h is here others i = go (is_place i n)
+  where
+    go : (i ≡ n) ⊎ (i ≢ n) → IsKept a cells i (kept_at new i)
+    go (inl e) = subst (λ j. IsKept a cells j (kept_at new j)) (sym e) (subst (IsKept a cells n) (sym here) is)
+    go (inr ne) = subst (IsKept a cells i) (sym (others i ne)) (h i)
+
+pub none_kept : (a : Sight) (cells : Box) (n : ℕ) (k : Kept) → k.values ≡ [] → IsKept a cells n k
+none_kept a cells n k none = λ some. absurd (let long = ap length none in omega (arith, long, some))
+
 -- rows that are made by this plan
 made_rows : (a : Body) (p : Planned) (cells : Box) (s : Stack) → s.planned ≡ p → IsPlanned a p → AreFirst (seen_by a p) cells s.known →
-    GoOn (seen_by a p) cells s.laid.rows s.laid.from → AreRows a cells s
-made_rows a p cells s same plan known laid = record {
+    GoOn (seen_by a p) cells s.laid.rows s.laid.from → AreKept (seen_by a p) cells s.kept → AreRows a cells s
+made_rows a p cells s same plan known laid kept = record {
   planned = subst (IsPlanned a) (sym same) plan;
   known = subst (λ (q : Planned). AreFirst (seen_by a q) cells s.known) (sym same) known;
   laid = subst (λ (q : Planned). GoOn (seen_by a q) cells s.laid.rows s.laid.from) (sym same) laid;
+  kept = subst (λ (q : Planned). AreKept (seen_by a q) cells s.kept) (sym same) kept;
 }
 
-pub one_more_row : (a : Body) (cells : Box) (old new : Stack) (row : List Hull) → AreRows a cells old → length old.known < length cells →
-    row ≡ get_or (rows_seen (seen_by a old.planned) cells) (length old.known) [] → IsOneMore row old new → AreRows a cells new
-one_more_row a cells old new row h lt is more =
+pub one_more_row : (a : Body) (cells : Box) (old new : Stack) (row : List Hull) (k : Kept) → AreRows a cells old → length old.known < length cells →
+    row ≡ get_or (rows_seen (seen_by a old.planned) cells) (length old.known) [] → IsKept (seen_by a old.planned) cells (length old.known) k →
+    IsOneMore row k old new → AreRows a cells new
+one_more_row a cells old new row k h lt is kept more =
     let s = seen_by a old.planned in
     made_rows a old.planned cells new more.planned h.planned (subst (AreFirst s cells) (sym more.known) (one_more s cells old.known row h.known lt is))
     (subst (λ r. GoOn s cells r new.laid.from) (sym more.rows)
     (with_row_go_on s cells old.laid.rows (length old.known) row old.laid.from new.laid.from h.laid more.within lt more.from more.above))
+    (more_kept s cells (length old.known) k old.kept new.kept h.kept kept more.kept more.others)
 
 pub all_rows_stand : (a : Body) (cells : Box) (old new : Stack) (row : List Hull) → AreRows a cells old → Stands row old →
     row ≡ get_or (rows_seen (seen_by a old.planned) cells) (length old.known) [] → new.planned ≡ old.planned → new.known ≡ old.laid.rows →
-    new.laid ≡ old.laid → AreRows a cells new
-all_rows_stand a cells old new row h s is plan all same =
+    new.laid ≡ old.laid → new.kept ≡ old.kept → AreRows a cells new
+all_rows_stand a cells old new row h s is plan all same kept =
     let z = seen_by a old.planned in
     made_rows a old.planned cells new plan h.planned
     (subst (AreFirst z cells) (sym all)
     (all_known z h.planned.sound cells old.laid.rows old.laid.from (length old.known) h.laid s.from s.there
     (subst (AreFirst z cells) s.known h.known) (s.same ∙ is)))
-    (subst (λ (l : Laid). GoOn z cells l.rows l.from) (sym same) h.laid)
+    (subst (λ (l : Laid). GoOn z cells l.rows l.from) (sym same) h.laid) (subst (AreKept z cells) (sym kept) h.kept)
 
 -- the same, as the code holds the rows
 
-pub standing : (p : Planned) (rows : Rows) (k from n : ℕ) (row here d : List Hull) (s : Stack) →
-    record { planned = p; known = take k rows; laid = record { rows = rows; from = from } } ≡ s → k ≤ length rows → n ≡ length rows → (k ≡ n → ⊥) → from ≤ k →
-    here ≡ get_or rows k d → here ≡ row → Stands row s
-standing p rows k from n row here d s is le count ne to at same =
+-- a stack of which the first k rows are known
+abbrev pub stack : Planned → Rows → ℕ → ℕ → List Kept → Stack
+stack p rows k from kept = record { planned = p; known = take k rows; laid = record { rows = rows; from = from }; kept = kept }
+
+pub below : (k n m : ℕ) → k ≤ m → n ≡ m → (k ≡ n → ⊥) → k < m
+below k n m le e ne = grind (arith, le, e, ne)
+
+pub standing : (p : Planned) (rows : Rows) (k from n : ℕ) (kept : List Kept) (row here d : List Hull) (s : Stack) → stack p rows k from kept ≡ s →
+    k ≤ length rows → n ≡ length rows → (k ≡ n → ⊥) → from ≤ k → here ≡ get_or rows k d → here ≡ row → Stands row s
+standing p rows k from n kept row here d s is le count ne to at same =
     let lt : k < length rows = below k n (length rows) le count ne in
     let long : length (take k rows) ≡ k = omega (arith, length-take k rows, le) in
     subst (Stands row) is (record {
@@ -184,18 +209,14 @@ standing p rows k from n row here d s is le count ne to at same =
       same = ap (λ m. get_or rows m []) long ∙ get_or_default rows k [] d lt ∙ sym at ∙ same;
       from = omega (arith, long, to);
     })
-  where
-    below : (k n m : ℕ) → k ≤ m → n ≡ m → (k ≡ n → ⊥) → k < m
-    below k n m le e ne = grind (arith, le, e, ne)
 
-pub pushed : (p : Planned) (rows new : Rows) (k from next : ℕ) (row : List Hull) (old : Stack) →
-    record { planned = p; known = take k rows; laid = record { rows = rows; from = from } } ≡ old → k ≤ length rows → new ≡ with_row k row rows →
-    from ≤ next → k + 1 ≤ next →
-    IsOneMore row old (record { planned = p; known = take (k + 1) new; laid = record { rows = new; from = next } })
-pushed p rows new k from next row old is le now to above =
+pub pushed : (p : Planned) (rows new : Rows) (k from next : ℕ) (kept left : List Kept) (row : List Hull) (here : Kept) (old : Stack) →
+    stack p rows k from kept ≡ old → k ≤ length rows → new ≡ with_row k row rows → from ≤ next → k + 1 ≤ next → kept_at left k ≡ here →
+    ((i : ℕ) → i ≢ k → kept_at left i ≡ kept_at kept i) → IsOneMore row here old (stack p new (k + 1) next left)
+pushed p rows new k from next kept left row here old is le now to above at others =
     let long : length (take k rows) ≡ k = omega (arith, length-take k rows, le) in
     let one : length (take k rows ++ row ∷ []) ≡ k + 1 = omega (arith, length-append (take k rows) (row ∷ []), long) in
-    subst (λ (o : Stack). IsOneMore row o (record { planned = p; known = take (k + 1) new; laid = record { rows = new; from = next } })) is (record {
+    subst (λ (o : Stack). IsOneMore row here o (stack p new (k + 1) next left)) is (record {
       planned = refl;
       known = ap (take (k + 1)) (now ∙ sym (append_assoc (take k rows) (row ∷ []) (drop (k + 1) rows)))
           ∙ take_at (take k rows ++ row ∷ []) (drop (k + 1) rows) (k + 1) one;
@@ -203,13 +224,15 @@ pushed p rows new k from next row old is le now to above =
       rows = now ∙ ap (λ m. with_row m row rows) (sym long);
       from = to;
       above = omega (arith, long, above);
+      kept = ap (kept_at left) long ∙ at;
+      others = λ i ne. others i (λ e. ne (e ∙ sym long));
     })
 
 -- a row that was known, without the values that its cell has lost
 
-pub known_inside : (p : Planned) (rows : Rows) (k from at : ℕ) (s : Stack) →
-    record { planned = p; known = take k rows; laid = record { rows = rows; from = from } } ≡ s → k ≤ length rows → at < k → IsKnownAt at s
-known_inside p rows k from at s is le lt =
+pub known_inside : (p : Planned) (rows : Rows) (k from at : ℕ) (kept : List Kept) (s : Stack) → stack p rows k from kept ≡ s → k ≤ length rows →
+    at < k → IsKnownAt at s
+known_inside p rows k from at kept s is le lt =
     subst (IsKnownAt at) is (record {
       known = (let l = length-take k rows in omega (arith, l, le, lt));
       laid = omega (arith, le, lt);
@@ -217,129 +240,141 @@ known_inside p rows k from at s is le lt =
     })
 
 module _ (old cut : Stack) (count end : ℕ) (known : IsKnownAt count old) (f : IsCut count end old cut) where
-  are_left : length cut.known ≡ count
+  pub are_left : length cut.known ≡ count
   are_left = let l = ap length f.known ∙ length-take count old.known in let lt = known.known in omega (arith, l, lt)
 
   pub row_above : length cut.known < length cut.laid.rows
   row_above = let rest = ap length f.rows in let here = are_left in let more = known.laid in omega (arith, here, rest, more)
-
-  pub spliced : (gone : Gone) (new : Stack) → IsOneMore (without cut.planned.states gone (get_or cut.laid.rows (length cut.known) [])) cut new →
-      IsSpliced count end gone old new
-  spliced gone new more = record {
-    there = known.known;
-    cut = cut;
-    is_cut = f;
-    more = subst (λ row. IsOneMore row cut new)
-        (ap (λ (q : Planned). without q.states gone (get_or cut.laid.rows (length cut.known) [])) f.planned
-        ∙ ap (λ (r : Rows). without old.planned.states gone (get_or r (length cut.known) [])) f.rows
-        ∙ ap (λ n. without old.planned.states gone (get_or old.laid.rows n [])) are_left
-        ∙ ap (without old.planned.states gone) known.same)
-        more;
-  }
-
-pub one_without : (p : Planned) (rows new : Rows) (k from next : ℕ) (gone : Gone) (old : Stack) →
-    record { planned = p; known = take k rows; laid = record { rows = rows; from = from } } ≡ old → k ≤ length rows →
-    new ≡ with_row k (without p.states gone (get_or rows k [])) rows → from ≤ next → k + 1 ≤ next →
-    IsOneMore (without old.planned.states gone (get_or old.laid.rows (length old.known) [])) old
-    (record { planned = p; known = take (k + 1) new; laid = record { rows = new; from = next } })
-one_without p rows new k from next gone old is le now to above =
-    let after : Stack = record { planned = p; known = take (k + 1) new; laid = record { rows = new; from = next } } in
-    let long : length (take k rows) ≡ k = omega (arith, length-take k rows, le) in
-    subst (λ (s : Stack). IsOneMore (without s.planned.states gone (get_or s.laid.rows (length s.known) [])) old after) is
-    (subst (λ n. IsOneMore (without p.states gone (get_or rows n [])) old after) (sym long)
-    (pushed p rows new k from next (without p.states gone (get_or rows k [])) old is le now to above))
-
-pub only_cut : (count end : ℕ) (gone : Option Gone) (old new : Stack) → IsCut count end old new → IsLeft count end gone old new
-only_cut count end None old new f = f
-only_cut count end (Some gone) old new f = inl f
 
 -- a result in either case
 pub either_way : {T E : Type 0} (r : Result T E) (P Q G : Type 0) → OnOk r P → OnErr r Q → (P → G) → (Q → G) → G
 either_way (Ok x) P Q G p q f g = f p
 either_way (Err e) P Q G p q f g = g q
 
--- a row that was known, without the values that its cell has lost, is that of the cell now
+-- what is kept of a row, or was shown of it, without values that are gone, is right
+
+some_before : (xs : List ℤ) (f t : ℕ) → 0 < length (remove_range xs f t) → 0 < length xs
+some_before xs f t some =
+    let both = length-append (take f xs) (drop t xs) in let front = length-take f xs in let rest = length-drop t xs in
+    omega (arith, both, front, rest, some)
+
+module _ (a : Body) (cells : Box) (s : Stack) (h : AreRows a cells s) where
+  abbrev sees : Sight
+  sees = seen_by a s.planned
+
+  abbrev top : ℕ
+  top = length s.known
+
+  abbrev row_there : List ℤ → List Hull
+  row_there values = seen_row sees.ends (row_of a (reverse (take top cells)) values)
+
+  -- without those values
+  row_less : (values : List ℤ) (f t : ℕ) (row : List Hull) → row ≡ row_there values →
+      remove_range row (f * s.planned.states) (t * s.planned.states) ≡ row_there (remove_range values f t)
+  row_less values f t row is =
+      ap (λ n. remove_range row (f * n) (t * n)) h.planned.states ∙ ap (λ l. remove_range l (f * length a.states) (t * length a.states)) is
+      ∙ row_lost sees.ends a (reverse (take top cells)) values f t
+
+  lessened : (old new : Kept) → IsKept sees cells top old → IsLessened s.planned.states old new → IsKept sees cells top new
+  lessened old new is (inl same) = subst (IsKept sees cells top) (sym same) is
+  lessened old new is (inr (f, t, same)) =
+      subst (IsKept sees cells top) (sym same) (λ some. row_less old.values f t old.hulls (is (some_before old.values f t some)))
+
+  filled : (before : List ℤ) (row : List Hull) (new : Kept) → row ≡ row_there before → IsFilled before row (kept_at s.kept top) new →
+      IsKept sees cells top new
+  filled before row new is (inl same) = subst (IsKept sees cells top) (sym same) (h.kept top)
+  filled before row new is (inr same) = subst (IsKept sees cells top) (sym same) (λ some. is)
+
+  less_stays : (gone : Gone) (before : List ℤ) (new : Stack) → top < length cells → get_or s.laid.rows top [] ≡ row_there before →
+      get_or cells top [] ≡ remove_range before gone.from gone.to → IsLess gone before s new → AreRows a cells new
+  less_stays gone before new lt is lost z =
+      let row = get_or s.laid.rows top [] in
+      one_more_row a cells s new (without s.planned.states gone row) z.kept h lt
+      (row_less before gone.from gone.to row is ∙ ap row_there (sym lost) ∙ sym (row_at_place sees cells top lt))
+      (lessened z.filled z.kept (filled before row z.filled is z.is_filled) z.is_kept) z.more
+
+  shown_stays : (now : List ℤ) (new : Stack) → now ≡ get_or cells top [] → IsShown now s new → AreRows a cells new
+  shown_stays now new is_now z =
+      let few = h.laid.few in let there = z.there in let lt : top < length cells = omega (arith, there, few) in
+      let right : IsKept sees cells top z.kept = subst (IsKept sees cells top) (sym z.is_kept) (h.kept top) in
+      let n = length a.states in let back = reverse (take top cells) in
+      one_more_row a cells s new (slice_range z.kept.hulls (z.from * s.planned.states) (z.to * s.planned.states)) z.kept h lt
+      (ap (λ m. slice_range z.kept.hulls (z.from * m) (z.to * m)) h.planned.states
+      ∙ ap (λ l. slice_range l (z.from * n) (z.to * n)) (right z.some) ∙ row_slice sees.ends a back z.kept.values z.from z.to
+      ∙ ap row_there (sym z.values ∙ is_now) ∙ sym (row_at_place sees cells top lt))
+      right z.more
+
+-- what a change leaves, and what is known again
 
 module _ (a : Body) (cells later : Box) (count end : ℕ) (old : Stack) (plan : IsPlanned a old.planned)
     (h : AreFirst (seen_by a old.planned) cells old.known) (g : GoOn (seen_by a old.planned) cells old.laid.rows old.laid.from)
-    (long : length later ≡ length cells) (before : take count later ≡ take count cells) (behind : drop end later ≡ drop end cells) where
-  abbrev sees : Sight
-  sees = seen_by a old.planned
+    (k : AreKept (seen_by a old.planned) cells old.kept) (long : length later ≡ length cells) (before : take count later ≡ take count cells)
+    (behind : drop end later ≡ drop end cells) where
+  abbrev saw : Sight
+  saw = seen_by a old.planned
+
+  fronts : (i : ℕ) → i ≤ count → take i later ≡ take i cells
+  fronts i le = sym (take-take i count later le) ∙ ap (take i) before ∙ take-take i count cells le
+
+  kept_stay : (new : Stack) → IsCut count end old new → AreKept saw later new.kept
+  kept_stay new f i = go (is_above i count)
+    where
+      is_above : (i n : ℕ) → (i ≤ n) ⊎ (n + 1 ≤ i)
+      is_above i n = grind arith
+
+      go : (i ≤ count) ⊎ (count + 1 ≤ i) → IsKept saw later i (kept_at new.kept i)
+      go (inl le) =
+          let was = kept_at old.kept i in
+          subst (IsKept saw later i) (sym (f.kept i le))
+          (λ some. k i some ∙ ap (λ l. seen_row saw.ends (row_of a (reverse l) was.values)) (sym (fronts i le)))
+      go (inr above) = none_kept saw later i (kept_at new.kept i) (f.none i above)
 
   cut_stays : (new : Stack) → IsCut count end old new → AreRows a later new
   cut_stays new f =
-      made_rows a old.planned later new f.planned plan (stay_first sees cells later count old.known new.known f.known before h)
-      (laid_stay sees plan.sound cells later end old.known old.laid new.laid h g f.from f.rows f.above long behind)
+      made_rows a old.planned later new f.planned plan (stay_first saw cells later count old.known new.known f.known before h)
+      (laid_stay saw plan.sound cells later end old.known old.laid new.laid h g f.from f.rows f.above long behind) (kept_stay new f)
 
-  row_now : (gone : Gone) → count < length old.known → get_or later count [] ≡ remove_range (get_or cells count []) gone.from gone.to →
-      without old.planned.states gone (get_or old.known count []) ≡ get_or (rows_seen sees later) count []
-  row_now gone lt lost =
-      let few = few_known sees cells old.known h in
-      let back = reverse (take count cells) in
-      ap (λ s. without s gone (get_or old.known count [])) plan.states
-      ∙ ap (without (length a.states) gone) (known_at sees cells old.known count h lt ∙ row_at_place sees cells count (omega (arith, lt, few)))
-      ∙ row_lost sees.ends a back (get_or cells count []) gone ∙ ap (λ vs. seen_row sees.ends (row_of a back vs)) (sym lost)
-      ∙ ap (λ l. seen_row sees.ends (row_of a (reverse l) (get_or later count []))) (sym before)
-      ∙ sym (row_at_place sees later count (omega (arith, lt, few, long)))
+  restored_stays : (now : List ℤ) (new : Stack) → get_or later count [] ≡ now → IsRestored count end now old new → AreRows a later new
+  restored_stays now new is z = go z.more
+    where
+      go : (new ≡ z.cut) ⊎ ((length z.cut.known ≡ count) × IsShown now z.cut new) → AreRows a later new
+      go (inl same) = subst (AreRows a later) (sym same) (cut_stays z.cut z.is_cut)
+      go (inr (at, shows)) =
+          shown_stays a later z.cut (cut_stays z.cut z.is_cut) now new (sym is ∙ ap (λ n. get_or later n []) (sym at)) shows
 
-  spliced_stays : (gone : Gone) (new : Stack) → IsSpliced count end gone old new →
-      get_or later count [] ≡ remove_range (get_or cells count []) gone.from gone.to → AreRows a later new
-  spliced_stays gone new z lost =
-      let few = few_known sees cells old.known h in let lt = z.there in
-      let here : length z.cut.known ≡ count = (let l = ap length z.is_cut.known ∙ length-take count old.known in omega (arith, l, lt)) in
-      one_more_row a later z.cut new (without old.planned.states gone (get_or old.known count [])) (cut_stays z.cut z.is_cut)
-      (omega (arith, here, lt, few, long))
-      (row_now gone lt lost ∙ ap (λ n. get_or (rows_seen sees later) n []) (sym here)
-      ∙ ap (λ (q : Planned). get_or (rows_seen (seen_by a q) later) (length z.cut.known) []) (sym z.is_cut.planned)) z.more
+  spliced_stays : (gone : Gone) (values : List ℤ) (new : Stack) → get_or cells count [] ≡ values →
+      get_or later count [] ≡ remove_range values gone.from gone.to → IsSpliced count end gone values old new → AreRows a later new
+  spliced_stays gone values new is lost z =
+      let cut = z.cut in let f = z.is_cut in let here = are_left old cut count end z.there f in
+      let few = few_known saw cells old.known h in let lt = z.there.known in
+      let row = λ (n : ℕ) (q : Planned). seen_row (seen_by a q).ends (row_of a (reverse (take n later)) values) in
+      less_stays a later cut (cut_stays cut f) gone values new (omega (arith, here, lt, few, long))
+      (ap (λ n. get_or cut.laid.rows n []) here ∙ ap (λ (r : Rows). get_or r count []) f.rows ∙ z.there.same
+      ∙ known_at saw cells old.known count h lt ∙ row_at_place saw cells count (omega (arith, lt, few))
+      ∙ ap (λ l. seen_row saw.ends (row_of a (reverse l) (get_or cells count []))) (sym before)
+      ∙ ap (λ vs. seen_row saw.ends (row_of a (reverse (take count later)) vs)) is
+      ∙ ap (λ n. row n old.planned) (sym here) ∙ ap (row (length cut.known)) (sym f.planned))
+      (ap (λ n. get_or later n []) here ∙ lost) z.less
 
-  pub left_stays : (gone : Option Gone) (new : Stack) → IsLeft count end gone old new → AreLost gone (get_or cells count []) (get_or later count []) →
-      AreRows a later new
-  left_stays None new f lost = cut_stays new f
-  left_stays (Some gone) new (inl f) lost = cut_stays new f
-  left_stays (Some gone) new (inr z) lost = spliced_stays gone new z lost
+  pub left_stays : (was now : List ℤ) → get_or cells count [] ≡ was → get_or later count [] ≡ now → (gone : Option Gone) (new : Stack) →
+      IsLeft count end gone was now old new → AreLost gone was now → AreRows a later new
+  left_stays was now is_was is_now None new f lost = restored_stays now new is_now f
+  left_stays was now is_was is_now (Some gone) new (inl f) lost = restored_stays now new is_now f
+  left_stays was now is_was is_now (Some gone) new (inr z) lost = spliced_stays gone was new is_was (is_now ∙ lost) z
 
 -- they are made by the same plan
-left_planned : (count end : ℕ) (gone : Option Gone) (old new : Stack) → IsLeft count end gone old new → new.planned ≡ old.planned
-left_planned count end None old new f = f.planned
-left_planned count end (Some gone) old new (inl f) = f.planned
-left_planned count end (Some gone) old new (inr z) = z.more.planned ∙ z.is_cut.planned
+restored_planned : (count end : ℕ) (now : List ℤ) (old new : Stack) → IsRestored count end now old new → new.planned ≡ old.planned
+restored_planned count end now old new z = go z.more
+  where
+    go : (new ≡ z.cut) ⊎ ((length z.cut.known ≡ count) × IsShown now z.cut new) → new.planned ≡ old.planned
+    go (inl same) = ap (λ (s : Stack). s.planned) same ∙ z.is_cut.planned
+    go (inr (at, shows)) = shows.more.planned ∙ z.is_cut.planned
 
--- tables after a change
-
-turned_rest : (n before : ℕ) (b later : Box) → length b ≡ n → length later ≡ n → take before later ≡ take before b →
-    drop (n - before) (reverse later) ≡ drop (n - before) (reverse b)
-turned_rest n before b later e f same =
-    ap (λ m. drop (m - before) (reverse later)) (sym f) ∙ sym (reverse_take before later) ∙ ap reverse same ∙ reverse_take before b
-    ∙ ap (λ m. drop (m - before) (reverse b)) e
-
-turned_cell : (n last : ℕ) (b : Box) → length b ≡ n → 0 < last → last ≤ n → get_or (reverse b) (n - last) [] ≡ get_or b (last - 1) []
-turned_cell n last b long some within =
-    let place : length b - 1 - (n - last) ≡ last - 1 = omega (arith, long, some, within) in
-    get_or-reverse b (n - last) [] (omega (arith, long, some, within)) ∙ ap (λ i. get_or b i []) place
-
-module _ (c : Change) (b later : Box) (d : IsChange c b later) where
-  long_later : length later ≡ length b
-  long_later = d.differ.count_later ∙ sym d.differ.count
-
-  behind_left : (p : Option Pair) (ends : Sides) (old new : Stack) → form_sides old.planned.form ≡ ends → IsPlannedBack p old.planned →
-      AreBehind p ends b old.known → GoOnBehind p ends b old.laid → IsLeft (c.count - c.last) (c.count - c.first) c.gone_last old new →
-      AreBehind p ends later new.known × GoOnBehind p ends later new.laid
-  behind_left None ends old new is plan h g f = (tt, tt)
-  behind_left (Some p) ends old new is plan h g f =
-      let some = c.some in
-      let turned = λ (cells : Box) (e : length cells ≡ c.count). turned_cell c.count c.last cells e (omega (arith, some)) c.within in
-      let known = subst (λ s. AreFirst (sight p.reverse s) (reverse b) old.known) (sym is) h in
-      let laid = subst (λ s. GoOn (sight p.reverse s) (reverse b) old.laid.rows old.laid.from) (sym is) g in
-      let rows = left_stays p.reverse (reverse b) (reverse later) (c.count - c.last) (c.count - c.first) old plan known laid
-      (length-reverse later ∙ long_later ∙ sym (length-reverse b))
-      (turned_front c.count c.last b later d.differ.count d.differ.count_later d.differ.behind)
-      (turned_rest c.count c.first b later d.differ.count d.differ.count_later d.differ.before) c.gone_last new f
-      (subst (AreLost c.gone_last (get_or (reverse b) (c.count - c.last) [])) (sym (turned later d.differ.count_later))
-      (subst (λ z. AreLost c.gone_last z (get_or later (c.last - 1) [])) (sym (turned b d.differ.count)) d.gone_last)) in
-      let now = ap (λ (q : Planned). form_sides q.form) (left_planned (c.count - c.last) (c.count - c.first) c.gone_last old new f) ∙ is in (
-        subst (λ s. AreFirst (sight p.reverse s) (reverse later) new.known) now rows.known,
-        subst (λ s. GoOn (sight p.reverse s) (reverse later) new.laid.rows new.laid.from) now rows.laid,
-      )
+pub left_planned : (count end : ℕ) (gone : Option Gone) (before now : List ℤ) (old new : Stack) → IsLeft count end gone before now old new →
+    new.planned ≡ old.planned
+left_planned count end None before now old new f = restored_planned count end now old new f
+left_planned count end (Some gone) before now old new (inl f) = restored_planned count end now old new f
+left_planned count end (Some gone) before now old new (inr z) = z.less.more.planned ∙ z.is_cut.planned
 
 -- the tables of a machine with these rows, and these requirements by which nothing is found
 abbrev pub tables : Automata → Stack → Stack → List Require → KnownRows
@@ -350,38 +385,23 @@ tables a x y quiet = record {
   behind = y.known;
   laid_ahead = x.laid;
   laid_behind = y.laid;
+  kept_ahead = x.kept;
+  kept_behind = y.kept;
   quiet = quiet;
 }
 
-module _ (a : Automata) (c : Change) (x y x' y' : Stack) (quiet : List Require) (plan : IsPlanned a.forward x.planned)
-    (plan_back : IsPlannedBack a.pair y.planned) (form : y.planned.form ≡ x.planned.form) (f : IsLeft c.first c.last c.gone_first x x')
-    (g : IsLeft (c.count - c.last) (c.count - c.first) c.gone_last y y') where
-  tables_stay : StayKnown c (tables a x y quiet) (tables a x' y' [])
-  tables_stay b later d h =
-      let rows = left_stays a.forward b later c.first c.last x plan h.ahead h.laid_ahead (long_later c b later d) d.differ.before d.differ.behind
-      c.gone_first x' f d.gone_first in
-      let ends = form_sides x.planned.form in
-      let back = behind_left c b later d a.pair ends y y' (ap form_sides form) plan_back h.behind h.laid_behind g in
-      let now : ends ≡ form_sides x'.planned.form = ap (λ (q : Planned). form_sides q.form) (sym (left_planned c.first c.last c.gone_first x x' f)) in
-      record {
-        ahead = rows.known;
-        behind = subst (λ s. AreBehind a.pair s later y'.known) now back.0;
-        laid_ahead = rows.laid;
-        laid_behind = subst (λ s. GoOnBehind a.pair s later y'.laid) now back.1;
-        quiet = λ r in_none. absurd (nothing_in r in_none);
-      }
-
-  -- the same, as the code makes it
-  pub stay_known : (quiet' : List Require) (old new : KnownRows) → quiet' ≡ [] → tables a x y quiet ≡ old → tables a x' y' quiet' ≡ new →
-      StayKnown c old new
-  stay_known quiet' old new none was now =
-      subst (StayKnown c old) (ap (tables a x' y') (sym none) ∙ now) (subst (λ t. StayKnown c t (tables a x' y' [])) was tables_stay)
-
 -- tables of which nothing is known
 
-no_behind : (p : Option Pair) (ends : Sides) (cells : Box) → AreBehind p ends cells [] × GoOnBehind p ends cells nothing_laid
-no_behind None ends cells = (tt, tt)
-no_behind (Some p) ends cells = (refl, record { few = omega arith; each = λ i le lt. absurd (omega (arith, lt)) })
+nothing_is_kept : (a : Sight) (cells : Box) → AreKept a cells []
+nothing_is_kept a cells i = λ some. absurd (omega (arith, some))
+
+no_behind : (p : Option Pair) (ends : Sides) (cells : Box) → AreBehind p ends cells [] × GoOnBehind p ends cells nothing_laid × AreKeptBehind p ends cells []
+no_behind None ends cells = (tt, tt, tt)
+no_behind (Some p) ends cells = (
+  refl,
+  record { few = omega arith; each = λ i le lt. absurd (omega (arith, lt)) },
+  nothing_is_kept (sight p.reverse ends) (reverse cells),
+)
 
 pub nothing_known : (a : Automata) (p q : Planned) (x y : Stack) (quiet : List Require) (t : KnownRows) (cells : Box) → x ≡ no_rows p → y ≡ no_rows q →
     quiet ≡ [] → tables a x y quiet ≡ t → AreRowsOf cells t
@@ -392,6 +412,8 @@ nothing_known a p q x y quiet t cells is is' none now =
       behind = behind.0;
       laid_ahead = record { few = omega arith; each = λ i le lt. absurd (omega (arith, lt)) };
       laid_behind = behind.1;
+      kept_ahead = nothing_is_kept (sight a.forward (form_sides p.form)) cells;
+      kept_behind = behind.2;
       quiet = λ r c. absurd (nothing_in r c);
     } in
     subst (AreRowsOf cells)
@@ -415,17 +437,20 @@ module _ (a : Automata) (b : Box) (quiet : List Require) (old new : KnownRows) (
           behind = subst (λ s. AreBehind a.pair s (looked_at a.window b) y.known) same known.behind;
           laid_ahead = more.laid;
           laid_behind = subst (λ s. GoOnBehind a.pair s (looked_at a.window b) y.laid) same known.laid_behind;
+          kept_ahead = more.kept;
+          kept_behind = subst (λ s. AreKeptBehind a.pair s (looked_at a.window b) y.kept) same known.kept_behind;
           quiet = known.quiet;
         };
       }))
 
   rows_behind : (p : Option Pair) (ends : Sides) (cells : Box) (s : Stack) → form_sides s.planned.form ≡ ends → Some row ≡ option_map (λ q. q.reverse) p →
-      AreRows row (reverse cells) s → AreBehind p ends cells s.known × GoOnBehind p ends cells s.laid
-  rows_behind None ends cells s same e rows = (tt, tt)
+      AreRows row (reverse cells) s → AreBehind p ends cells s.known × GoOnBehind p ends cells s.laid × AreKeptBehind p ends cells s.kept
+  rows_behind None ends cells s same e rows = (tt, tt, tt)
   rows_behind (Some p) ends cells s same e rows =
       let r = subst (λ f. AreRows f (reverse cells) s) (same_Some row p.reverse e) rows in (
         subst (λ z. AreFirst (sight p.reverse z) (reverse cells) s.known) same r.known,
         subst (λ z. GoOn (sight p.reverse z) (reverse cells) s.laid.rows s.laid.from) same r.laid,
+        subst (λ z. AreKept (sight p.reverse z) (reverse cells) s.kept) same r.kept,
       )
 
   pub behind_known : (x y y' : Stack) → Some row ≡ option_map (λ q. q.reverse) a.pair → AreRows row (reverse (looked_at w b)) y' →
@@ -442,6 +467,8 @@ module _ (a : Automata) (b : Box) (quiet : List Require) (old new : KnownRows) (
           behind = more.0;
           laid_ahead = known.laid_ahead;
           laid_behind = more.1;
+          kept_ahead = known.kept_ahead;
+          kept_behind = more.2;
           quiet = known.quiet;
         };
       }))

@@ -18,10 +18,12 @@ mod Removals
 mod WithoutValues
 mod MeetingLaws
 mod OthersLaws
+mod ChangedTables
 mod PackedStacks
 mod DropLaws
 mod EarlyCells
 pub mod SparedLaws
+mod HeldRows
 pub mod KeptLaws
 mod KnownRows
 mod LaidRows
@@ -33,3 +35,5 @@ mod EnoughEnds
 mod SeenEnds
 mod AlikeLaws
 mod RoomLaws
+mod RowParts
+mod ShownRows

@@ -1,14 +1,11 @@
 -- Packed rows on top of one another: which rows they are, and what stays so of their states.
 use lib.Pointwise.{pointwise}
-use Rattle.std.proofs.Common.{◌≡◌, ℕ, suc, ◌+◌, ◌-◌, ◌*◌, ◌/◌, ◌<◌, ◌≤◌, ◌⊎◌, inl, inr, ℤ, List, [], ◌∷◌, ◌++◌, length, map, take, drop, reverse, set, get_or, Bool, true, false, not, refl, sym, ap, ◌∙◌, subst, arith}
+use Rattle.std.proofs.Common.{◌≡◌, ℕ, suc, ◌+◌, ◌*◌, ◌/◌, ◌<◌, ◌≤◌, ◌⊎◌, inl, inr, ℤ, List, [], ◌∷◌, ◌++◌, length, take, reverse, get_or, Bool, true, false, not, refl, sym, ap, ◌∙◌, subst, arith}
 use Rattle.std.specs.Ordering.{int_eq}
-use Rattle.std.specs.Prelude.{All}
 use Rattle.std.proofs.lemmas.Bool.Decides.{Decides-int_eq}
 use Rattle.std.proofs.lemmas.Slice.Eq.{slice_eq-Decides}
 use Rattle.std.proofs.Math.Nat.{mul-div_cancel}
-use Rattle.std.proofs.Math.ListN.{get_or-map}
-use Rattle.std.proofs.lemmas.List.{take_more, take_all, take-map, drop-map, get_or-map as get_or_mapped, map-append, reverse-append, length-append, length-map, length-take}
-use Rattle.std.proofs.lemmas.List.Elements.{All-append, All-cons, All-get_or, All-take, All-drop}
+use Rattle.std.proofs.lemmas.List.{take_more, take_all, reverse-append, length-map}
 use Rattle.ts_automaton.specs.declared.regs.Hull.{Hull}
 use Rattle.ts_automaton.specs.Body.{Body}
 use Rattle.ts_sweep.specs.declared.packed.PackedHull.{PackedHull}
@@ -22,16 +19,15 @@ use Rattle.ts_filter.specs.declared.any_row.AnyRow.{AnyRow}
 use Rattle.ts_filter.specs.declared.any_row.AnyRow.TheVariants.{Narrow, Upper, Lower, Wide}
 use Rattle.ts_filter.specs.declared.any_row.Form.{Form}
 use Rattle.ts_filter.specs.declared.any_row.Form.TheVariants.{Narrow as NarrowForm, Upper as UpperForm, Lower as LowerForm, Wide as WideForm}
-use Rattle.ts_filter.specs.declared.gone.Gone.{Gone}
 use Rattle.ts_filter.specs.declared.planned.Planned.{Planned}
 use Rattle.ts_filter.specs.declared.row_stack.HullRow.{HullRow}
-use Rattle.ts_filter.specs.AnyRows.{IsFormOf, IsRowOf, columns, form_lanes, form_of, form_sides, lanes_of, row_without}
+use Rattle.ts_filter.specs.AnyRows.{IsFormOf, IsRowOf, columns, form_lanes, form_of, form_sides, lanes_of}
 use Rattle.ts_filter.specs.Boxes.{Box}
 use Rattle.ts_filter.specs.KnownRows.{AreFirst}
-use Rattle.ts_filter.specs.RowStacks.{HasStates, IsPlanned, Rows, Stack, all_hulls, hulls_in, rows_seen, seen_by, values_in, with_row, without}
+use Rattle.ts_filter.specs.RowStacks.{HasStates, IsLaid, IsPlanned, Rows, hulls_in, rows_seen, seen_by, shown, values_in}
+use Rattle.ts_filter.specs.RowWindows.{IsFresh}
 use Rattle.ts_filter.proofs.KnownRows.{first_behind, known_at, row_at_place}
-use Rattle.ts_filter.proofs.LaidRows.{put_within}
-use Rattle.ts_filter.proofs.WithoutValues.{made_without}
+use Rattle.ts_filter.proofs.ShownRows.{fresh_shown}
 
 -- a packed row of an automaton has its states, and its values are as many as the cell's
 
@@ -69,6 +65,15 @@ made_row a p before values row is form made =
       ap (λ z. flat_row n p.states z hulls) long ∙ ap (λ s. flat_row n s (length values) hulls) is.states ∙ made.packed.is_flat
           ∙ ap (λ s. seen_row s (row_of a before values)) (ends_are p row form),
     )
+
+-- one just made shows all of them
+pub fresh_made : (a : Body) (p : Planned) (before : Box) (values : List ℤ) (r : HullRow) (hulls : List Hull) → IsPlanned a p →
+    IsFresh (length values) r → IsRowOf a before values r.packed → HasStates p r.packed × (hulls_in p.states r.packed ≡ hulls) →
+    IsLaid p r × (hulls_in p.states (shown r) ≡ hulls)
+fresh_made a p before values r hulls is fresh row made =
+    let long : values_in r.packed ≡ length values = (row.packed.is_row.columns 0 (subst (λ s. 0 < s) is.states is.some)).0 in
+    let all = fresh_shown p r made.0 (long ∙ sym fresh.count) fresh.from (fresh.to ∙ sym fresh.count) in
+    (all.0, ap (hulls_in p.states) all.1 ∙ made.1)
 
 pub packed_row : (a : Body) (p : Planned) (before : Box) (values : List ℤ) (row : AnyRow) → IsPlanned a p → HasStates p row →
     hulls_in p.states row ≡ seen_row (form_sides p.form) (row_of a before values) → IsRowOf a before values row
@@ -127,65 +132,6 @@ module _ (a : Body) (cells : Box) (rows : Rows) (p : Planned) (i : ℕ) (before_
             ∙ ap (seen_behind (reverse (take (length rows) cells))) is_values ∙ sym (row_at_place (seen_by a p) cells (length rows) lt),
       )
 
--- lists of rows, as a stack holds them
-
-pub long_hulls : (s k : ℕ) (rows : List HullRow) → k ≤ length rows → k ≤ length (all_hulls s rows)
-long_hulls s k rows le = let l = length-map rows (λ (r : HullRow). hulls_in s r.packed) in omega (arith, l, le)
-
-all_with_row : {X : Type 0} (P : X → Type 0) (at : ℕ) (x : X) (xs : List X) → All P xs → P x → All P (with_row at x xs)
-all_with_row P at x xs h is =
-    All-append P (take at xs) (x ∷ drop (at + 1) xs) (All-take P at xs h) (All-cons P x (drop (at + 1) xs) is (All-drop P (at + 1) xs h))
-
--- the stack holds one more
-pub stacked : (p : Planned) (k : ℕ) (row : HullRow) (rows new : List HullRow) → k ≤ length rows → All (λ (r : HullRow). HasStates p r.packed) rows →
-    HasStates p row.packed → new ≡ with_row k row rows → (k + 1 ≤ length new) × All (λ (r : HullRow). HasStates p r.packed) new
-stacked p k row rows new le all states is =
-    let more = length-append (take k rows) (row ∷ drop (k + 1) rows) in let front = length-take k rows in let long = ap length is in (
-      omega (arith, long, more, front, le),
-      subst (All (λ (r : HullRow). HasStates p r.packed)) (sym is) (all_with_row (λ (r : HullRow). HasStates p r.packed) k row rows all states),
-    )
-
-pub hulls_with_row : (s at : ℕ) (row : HullRow) (rows : List HullRow) →
-    all_hulls s (with_row at row rows) ≡ with_row at (hulls_in s row.packed) (all_hulls s rows)
-hulls_with_row s at row rows =
-    let f = λ (r : HullRow). hulls_in s r.packed in
-    map-append f (take at rows) (row ∷ drop (at + 1) rows) ∙ ap (λ l. l ++ f row ∷ map f (drop (at + 1) rows)) (sym (take-map f at rows))
-    ∙ ap (λ l. take at (map f rows) ++ f row ∷ l) (sym (drop-map f (at + 1) rows))
-
--- the stack holds a row without the values that its cell has lost
-pub stacked_without : (p : Planned) (g : Gone) (k : ℕ) (row left : HullRow) (rows new : List HullRow) → k < length rows →
-    All (λ (r : HullRow). HasStates p r.packed) rows → row ≡ get_or rows k row → left.packed ≡ row_without g.from g.to row.packed → new ≡ set rows k left →
-    (k + 1 ≤ length new) × All (λ (r : HullRow). HasStates p r.packed) new
-    × (all_hulls p.states new ≡ with_row k (without p.states g (get_or (all_hulls p.states rows) k [])) (all_hulls p.states rows))
-stacked_without p g k row left rows new lt all is_row is_left is_new =
-    let states : HasStates p row.packed = subst (λ (r : HullRow). HasStates p r.packed) (sym is_row)
-    (All-get_or (λ (r : HullRow). HasStates p r.packed) rows k row lt all) in
-    let made = made_without p g row.packed states in
-    let now : new ≡ with_row k left rows = is_new ∙ put_within rows k left lt in
-    let stack = stacked p k left rows new (omega (arith, lt)) all (subst (HasStates p) (sym is_left) made.0) now in
-    let here : hulls_in p.states row.packed ≡ get_or (all_hulls p.states rows) k [] =
-    ap (λ (r : HullRow). hulls_in p.states r.packed) is_row ∙ sym (get_or_mapped (λ (r : HullRow). hulls_in p.states r.packed) rows k row [] lt) in (
-      stack.0,
-      stack.1,
-      ap (all_hulls p.states) now ∙ hulls_with_row p.states k left rows
-          ∙ ap (λ h. with_row k h (all_hulls p.states rows)) (ap (hulls_in p.states) is_left ∙ made.1 ∙ ap (without p.states g) here),
-    )
-
-pub row_inside : (p : Planned) (rows : List HullRow) (k from : ℕ) (s : Stack) →
-    record { planned = p; known = take k (all_hulls p.states rows); laid = record { rows = all_hulls p.states rows; from = from } } ≡ s → k ≤ length rows →
-    length s.known < length s.laid.rows → k < length rows
-row_inside p rows k from s is le lt =
-    let all = all_hulls p.states rows in
-    let here : length (take k all) < length all = subst (λ (t : Stack). length t.known < length t.laid.rows) (sym is) lt in
-    let front = length-take k all in let count = length-map rows (λ (r : HullRow). hulls_in p.states r.packed) in
-    omega (arith, here, front, count, le)
-
--- a row that has the same hulls as the one at a place
-pub standing_row : (s k : ℕ) (rows : List HullRow) (here d row : HullRow) → here ≡ get_or rows k d → here.packed ≡ row.packed →
-    hulls_in s row.packed ≡ get_or (all_hulls s rows) k (hulls_in s d.packed)
-standing_row s k rows here d row is same =
-    ap (hulls_in s) (sym same) ∙ ap (λ (r : HullRow). hulls_in s r.packed) is ∙ sym (get_or-map (λ (r : HullRow). hulls_in s r.packed) rows k d)
-
 -- two lists that have the same at each place
 
 pub same_on : {X : Type 0} (xs ys : List X) (i : ℕ) (d e : X) → take i xs ≡ take i ys → i < length xs → length xs ≡ length ys → get_or xs i d ≡ get_or ys i e →
@@ -207,6 +153,10 @@ pub same_hulls_on : (n : ℕ) (xs ys : List (PackedHull n)) (i : ℕ) (x y : Pac
     take (i + 1) xs ≡ take (i + 1) ys
 same_hulls_on n xs ys i x y told front lt long is_x is_y is isnt =
     same_on xs ys i x y front lt long (sym is_x ∙ lanes_same n x y told is isnt ∙ is_y)
+
+pub told_same : (xs ys : List ℤ) (told : Bool) → told ≡ not (pointwise int_eq xs ys) → told ≡ false → xs ≡ ys
+told_same xs ys told is isnt =
+    (slice_eq-Decides Decides-int_eq xs ys (pointwise int_eq xs ys) refl).0 (yes (pointwise int_eq xs ys) (sym is ∙ isnt))
 
 pub rest_same : (xs ys : List ℤ) (n m : ℕ) (told : Bool) → told ≡ not (pointwise int_eq (take n xs) (take m ys)) → told ≡ false → length xs ≤ n →
     length ys ≤ m →

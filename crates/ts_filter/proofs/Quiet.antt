@@ -136,6 +136,8 @@ module _ (rs : List Require) (term : ℕ) where
           behind = h.behind;
           laid_ahead = h.laid_ahead;
           laid_behind = h.laid_behind;
+          kept_ahead = h.kept_ahead;
+          kept_behind = h.kept_behind;
           quiet = λ r c.
               let own = owned rs r (subst (λ l. Contains l r) is c) in
               quiet_where_none a b looks (λ e. split (ap (λ (t : KnownRows). t.machine.pair) (sym was) ∙ e)) none r own.0 own.1;

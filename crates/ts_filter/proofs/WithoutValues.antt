@@ -1,7 +1,7 @@
--- Rows without the hulls of some values, as lists and packed.
+-- Rows without the hulls of some values, and with those of some values alone, as lists and packed.
 use Rattle.std.proofs.Common.{◌≡◌, ◌⊎◌, inl, inr, ℕ, min, zero, suc, ◌+◌, ◌-◌, ◌*◌, ◌<◌, ◌≤◌, ℤ, List, [], ◌∷◌, ◌++◌, length, map, take, drop, get_or, refl, sym, ap, ◌∙◌, subst, arith}
 use Rattle.std.specs.Prelude.{flat_map}
-use Rattle.std.specs.List.{range_with_len, remove_range}
+use Rattle.std.specs.List.{range_with_len, remove_range, slice_range}
 use Rattle.std.proofs.Math.ListN.{get_or-map}
 use Rattle.std.proofs.Math.Seq.{take-nil, drop-nil, take-append-add, drop-append-add}
 use Rattle.std.proofs.lemmas.Grind.{flat_map-append}
@@ -11,17 +11,17 @@ use Rattle.ts_automaton.specs.declared.regs.Hull.{Hull}
 use Rattle.ts_automaton.specs.Body.{Body}
 use Rattle.ts_bound.specs.HullTables.{hull_at, hulls_at, row_of}
 use Rattle.ts_bound.specs.PackedRows.{seen_row}
-use Rattle.ts_row.specs.Rows.{IsColumn, IsRow, flat_row, hull_in, lanes_of, nothing}
+use Rattle.ts_row.specs.Rows.{IsColumn, IsRow, columns_part, flat_row, hull_in, lanes_of, nothing}
+use Rattle.ts_row.proofs.Parts.{hull_in_part, part_length, part_row}
 use Rattle.ts_sweep.specs.declared.packed.PackedHull.{PackedHull}
 use Rattle.ts_sweep.specs.Packed.{IsPacked, unpacked}
 use Rattle.ts_sweep.specs.Sides.{Sides, lane_count, seen_hull}
 use Rattle.ts_filter.specs.declared.any_row.AnyRow.{AnyRow}
 use Rattle.ts_filter.specs.declared.any_row.AnyRow.TheVariants.{Narrow, Upper, Lower, Wide}
-use Rattle.ts_filter.specs.declared.gone.Gone.{Gone}
 use Rattle.ts_filter.specs.declared.planned.Planned.{Planned}
-use Rattle.ts_filter.specs.AnyRows.{columns_without, row_without}
+use Rattle.ts_filter.specs.AnyRows.{columns_without, row_part, row_without}
 use Rattle.ts_filter.specs.Boxes.{Box}
-use Rattle.ts_filter.specs.RowStacks.{HasStates, hulls_in, without}
+use Rattle.ts_filter.specs.RowStacks.{HasStates, hulls_in, values_in}
 
 -- a list that is made of parts of one length
 
@@ -45,6 +45,17 @@ module _ {X Y : Type 0} (f : X → List Y) (s : ℕ) (each : (x : X) → length 
       ap (λ l. l ++ drop (j * s) (flat_map f xs)) (front_of_parts i xs) ∙ ap (λ l. flat_map f (take i xs) ++ l) (rest_of_parts j xs)
       ∙ sym (flat_map-append f (take i xs) (drop j xs))
 
+  times_less : (i j : ℕ) → j * s - i * s ≡ (j - i) * s
+  times_less zero j = let none : 0 * s ≡ 0 = omega arith in let all : j - 0 ≡ j = omega arith in omega (arith, none, ap (λ n. n * s) all)
+  times_less (suc i) zero = let none : 0 * s ≡ 0 = omega arith in let all : 0 - suc i ≡ 0 = omega arith in omega (arith, none, ap (λ n. n * s) all)
+  times_less (suc i) (suc j) =
+      let here : suc j * s - suc i * s ≡ j * s - i * s = omega arith in let there : j - i ≡ suc j - suc i = omega arith in
+      here ∙ times_less i j ∙ ap (λ n. n * s) there
+
+  parts_slice : (xs : List X) (i j : ℕ) → slice_range (flat_map f xs) (i * s) (j * s) ≡ flat_map f (slice_range xs i j)
+  parts_slice xs i j =
+      ap (λ l. take (j * s - i * s) l) (rest_of_parts i xs) ∙ ap (λ n. take n (flat_map f (drop i xs))) (times_less i j) ∙ front_of_parts (j - i) (drop i xs)
+
 -- the values that went stood side by side
 pub lost_between : (before now : List ℤ) (from to : ℕ) → take from now ≡ take from before → drop to before ≡ drop from now →
     now ≡ remove_range before from to
@@ -53,22 +64,38 @@ lost_between before now from to same rest =
 
 -- the row of a cell that has lost values: the hulls of the others are as they were
 
-all_lost : (a : Body) (before : Box) (values : List ℤ) (g : Gone) →
-    without (length a.states) g (row_of a before values) ≡ row_of a before (remove_range values g.from g.to)
+all_lost : (a : Body) (before : Box) (values : List ℤ) (i j : ℕ) →
+    remove_range (row_of a before values) (i * length a.states) (j * length a.states) ≡ row_of a before (remove_range values i j)
 unfolding row_of hulls_at
-all_lost a before values g =
-    parts_without (hulls_at a before) (length a.states) (λ v. length-map-range_with_len (hull_at a before v) 0 (length a.states)) values g.from g.to
+all_lost a before values i j =
+    parts_without (hulls_at a before) (length a.states) (λ v. length-map-range_with_len (hull_at a before v) 0 (length a.states)) values i j
 
 map_without : {X Y : Type 0} (f : X → Y) (xs : List X) (i j : ℕ) → remove_range (map f xs) i j ≡ map f (remove_range xs i j)
 map_without f xs i j =
     ap (λ l. l ++ drop j (map f xs)) (take-map f i xs) ∙ ap (λ l. map f (take i xs) ++ l) (drop-map f j xs) ∙ sym (map-append f (take i xs) (drop j xs))
 
 -- and so is what is seen of them
-pub row_lost : (ends : Sides) (a : Body) (before : Box) (values : List ℤ) (g : Gone) →
-    without (length a.states) g (seen_row ends (row_of a before values)) ≡ seen_row ends (row_of a before (remove_range values g.from g.to))
-row_lost ends a before values g =
-    map_without (seen_hull ends) (row_of a before values) (g.from * length a.states) (g.to * length a.states)
-    ∙ ap (seen_row ends) (all_lost a before values g)
+pub row_lost : (ends : Sides) (a : Body) (before : Box) (values : List ℤ) (i j : ℕ) →
+    remove_range (seen_row ends (row_of a before values)) (i * length a.states) (j * length a.states)
+    ≡ seen_row ends (row_of a before (remove_range values i j))
+row_lost ends a before values i j =
+    map_without (seen_hull ends) (row_of a before values) (i * length a.states) (j * length a.states) ∙ ap (seen_row ends) (all_lost a before values i j)
+
+-- the row of a cell that has some of the values alone
+
+some_values : (a : Body) (before : Box) (values : List ℤ) (i j : ℕ) →
+    slice_range (row_of a before values) (i * length a.states) (j * length a.states) ≡ row_of a before (slice_range values i j)
+unfolding row_of hulls_at
+some_values a before values i j =
+    parts_slice (hulls_at a before) (length a.states) (λ v. length-map-range_with_len (hull_at a before v) 0 (length a.states)) values i j
+
+pub row_slice : (ends : Sides) (a : Body) (before : Box) (values : List ℤ) (i j : ℕ) →
+    slice_range (seen_row ends (row_of a before values)) (i * length a.states) (j * length a.states)
+    ≡ seen_row ends (row_of a before (slice_range values i j))
+row_slice ends a before values i j =
+    let whole = row_of a before values in let m = i * length a.states in let n = j * length a.states in
+    ap (take (n - m)) (drop-map (seen_hull ends) m whole) ∙ take-map (seen_hull ends) (n - m) (drop m whole)
+    ∙ ap (seen_row ends) (some_values a before values i j)
 
 -- ranges of places
 
@@ -203,6 +230,60 @@ module _ (n s f t k : ℕ) (old : List (List (PackedHull n))) (h : IsRow n s k o
       ∙ ap (λ l. at_places n s old (take f (range_with_len 0 k) ++ l)) (sym (rest_places 0 k t))
       ∙ sym (parts_without at s (λ i. length-map-range_with_len (λ q. hull_in n old q i) 0 s) (range_with_len 0 k) f t)
 
+-- some places of a packed row alone
+
+column_part : {X : Type 0} (f t : ℕ) (columns : List (List X)) (q : ℕ) → get_or (columns_part f t columns) q [] ≡ slice_range (get_or columns q []) f t
+column_part {X} f t columns q =
+    let none : slice_range {X = X} [] f t ≡ [] = ap (take (t - f)) (drop-nil f) ∙ take-nil (t - f) in
+    ap (λ d. get_or (columns_part f t columns) q d) (sym none) ∙ get_or-map (λ column. slice_range column f t) columns q []
+
+module _ (n s f t k : ℕ) (old : List (List (PackedHull n))) (h : IsRow n s k old) (order : f ≤ t) (inside : t ≤ k) where
+  abbrev part : List (List (PackedHull n))
+  part = columns_part f t old
+
+  hull_shown : (q i : ℕ) → q < s → i < t - f → hull_in n part q (0 + i) ≡ hull_in n old q (f + i)
+  hull_shown q i lt less = let here : 0 + i ≡ i = omega arith in ap (hull_in n part q) here ∙ hull_in_part n s k old h f t q i lt less
+
+  flat_part : flat_row n s (t - f) part ≡ slice_range (flat_row n s k old) (f * s) (t * s)
+  unfolding flat_row
+  flat_part =
+      let at = λ (i : ℕ). map (λ q. hull_in n old q i) (range_with_len 0 s) in
+      let start : f ≡ 0 + f = omega arith in let count : t - f ≡ min (t - f) (k - f) = omega (arith, order, inside) in
+      moved_places n s old part 0 f (t - f) hull_shown
+      ∙ ap (λ m. at_places n s old (range_with_len f m)) count ∙ ap (λ p. at_places n s old (range_with_len p (min (t - f) (k - f)))) start
+      ∙ ap (at_places n s old) (sym (front_places (0 + f) (k - f) (t - f)) ∙ ap (take (t - f)) (sym (rest_places 0 k f)))
+      ∙ sym (parts_slice at s (λ i. length-map-range_with_len (λ q. hull_in n old q i) 0 s) (range_with_len 0 k) f t)
+
+-- the row that shows them
+
+part_of : (n s f t : ℕ) (old : List (List (PackedHull n))) → IsRow n s (length (get_or old 0 [])) old → f ≤ t → t ≤ length (get_or old 0 []) →
+    IsRow n s (length (get_or (columns_part f t old) 0 [])) (columns_part f t old)
+    × (flat_row n s (length (get_or (columns_part f t old) 0 [])) (columns_part f t old)
+    ≡ slice_range (flat_row n s (length (get_or old 0 [])) old) (f * s) (t * s))
+part_of n s f t old h order inside =
+    let k = length (get_or old 0 []) in
+    let long = ap length (column_part f t old 0) ∙ part_length f t (get_or old 0 []) inside in (
+      subst (λ m. IsRow n s m (columns_part f t old)) (sym long) (part_row n s k old h f t order inside),
+      ap (λ m. flat_row n s m (columns_part f t old)) long ∙ flat_part n s f t k old h order inside,
+    )
+
+pub made_part : (p : Planned) (f t : ℕ) (row : AnyRow) → HasStates p row → f ≤ t → t ≤ values_in row →
+    HasStates p (row_part f t row) × (hulls_in p.states (row_part f t row) ≡ slice_range (hulls_in p.states row) (f * p.states) (t * p.states))
+made_part p f t (Narrow row) h order inside =
+    let l = part_of 6 p.states f t row h.is_row order inside in (record { form = h.form; is_row = l.0 }, l.1)
+made_part p f t (Upper row) h order inside =
+    let l = part_of 3 p.states f t row h.is_row order inside in (record { form = h.form; is_row = l.0 }, l.1)
+made_part p f t (Lower row) h order inside =
+    let l = part_of 4 p.states f t row h.is_row order inside in (record { form = h.form; is_row = l.0 }, l.1)
+made_part p f t (Wide row) h order inside =
+    let l = part_of 10 p.states f t row h.is_row order inside in (record { form = h.form; is_row = l.0 }, l.1)
+
+count_in_column : {X : Type 0} (f t : ℕ) (old : List (List X)) → f ≤ t → t ≤ length (get_or old 0 []) →
+    length (get_or (columns_without f t old) 0 []) ≡ length (get_or old 0 []) - (t - f)
+count_in_column f t old order inside =
+    let k = length (get_or old 0 []) in
+    ap length (column_without f t old 0) ∙ (let both = count_without (get_or old 0 []) k f t refl in omega (arith, both, order, inside))
+
 -- as a stack holds it
 
 left_of : (n s f t : ℕ) (old : List (List (PackedHull n))) → IsRow n s (length (get_or old 0 [])) old →
@@ -217,9 +298,16 @@ left_of n s f t old h =
       ap (λ m. flat_row n s m (columns_without f t old)) long ∙ flat_left n s f t k old h,
     )
 
-pub made_without : (p : Planned) (g : Gone) (row : AnyRow) → HasStates p row →
-    HasStates p (row_without g.from g.to row) × (hulls_in p.states (row_without g.from g.to row) ≡ without p.states g (hulls_in p.states row))
-made_without p g (Narrow row) h = let l = left_of 6 p.states g.from g.to row h.is_row in (record { form = h.form; is_row = l.0 }, l.1)
-made_without p g (Upper row) h = let l = left_of 3 p.states g.from g.to row h.is_row in (record { form = h.form; is_row = l.0 }, l.1)
-made_without p g (Lower row) h = let l = left_of 4 p.states g.from g.to row h.is_row in (record { form = h.form; is_row = l.0 }, l.1)
-made_without p g (Wide row) h = let l = left_of 10 p.states g.from g.to row h.is_row in (record { form = h.form; is_row = l.0 }, l.1)
+pub made_without : (p : Planned) (f t : ℕ) (row : AnyRow) → HasStates p row → HasStates p (row_without f t row)
+    × (hulls_in p.states (row_without f t row) ≡ remove_range (hulls_in p.states row) (f * p.states) (t * p.states))
+made_without p f t (Narrow row) h = let l = left_of 6 p.states f t row h.is_row in (record { form = h.form; is_row = l.0 }, l.1)
+made_without p f t (Upper row) h = let l = left_of 3 p.states f t row h.is_row in (record { form = h.form; is_row = l.0 }, l.1)
+made_without p f t (Lower row) h = let l = left_of 4 p.states f t row h.is_row in (record { form = h.form; is_row = l.0 }, l.1)
+made_without p f t (Wide row) h = let l = left_of 10 p.states f t row h.is_row in (record { form = h.form; is_row = l.0 }, l.1)
+
+-- how many values it has then
+pub count_left : (f t : ℕ) (row : AnyRow) → f ≤ t → t ≤ values_in row → values_in (row_without f t row) ≡ values_in row - (t - f)
+count_left f t (Narrow row) order inside = count_in_column f t row order inside
+count_left f t (Upper row) order inside = count_in_column f t row order inside
+count_left f t (Lower row) order inside = count_in_column f t row order inside
+count_left f t (Wide row) order inside = count_in_column f t row order inside

@@ -19,7 +19,7 @@ use Rattle.ts_filter.specs.declared.gone.Change.{Change}
 use Rattle.ts_filter.specs.Reading.{in_order}
 use Rattle.ts_filter.specs.declared.planned.Planned.{Planned}
 use Rattle.ts_sweep.specs.Sides.{Sides}
-use Rattle.ts_filter.specs.RowStacks.{Rows, Laid, GoOn, IsPlanned, Sight, Stack, rows_seen, seen_by, sight}
+use Rattle.ts_filter.specs.RowStacks.{AreKept, Kept, Rows, Laid, GoOn, IsPlanned, Sight, Stack, rows_seen, seen_by, sight}
 use Rattle.ts_filter.specs.TermDrops.{IsQuiet, IsTermDrop}
 
 -- these are what is seen of the rows of the cells that the automaton reads first
@@ -27,14 +27,17 @@ abbrev pub AreFirst : Sight → Box → Rows → Type 0
 AreFirst a cells rows = rows ≡ take (length rows) (rows_seen a cells)
 
 -- the rows are made by the plan of the automaton; the known ones are those of the cells that it reads first, and from a
--- place on each of those that lie there is followed by its next one
+-- place on each of those that lie there is followed by its next one; what is kept of a row is right behind the cells
+-- before it
 pub record AreRows (a : Body) (cells : Box) (s : Stack) : Type 0 where
   pub planned : IsPlanned a s.planned
   pub known : AreFirst (seen_by a s.planned) cells s.known
   pub laid : GoOn (seen_by a s.planned) cells s.laid.rows s.laid.from
+  pub kept : AreKept (seen_by a s.planned) cells s.kept
 
 -- the rows of a machine: forward ones, and backward ones, that of the last cell first; and with them those that aren't
--- known to be of the present box; the form of their hulls; and requirements by which no drop is possible
+-- known to be of the present box, and what is kept of each; the form of their hulls; and requirements by which no drop
+-- is possible
 pub record KnownRows : Type 0 where
   pub machine : Automata
   pub form : Form
@@ -42,6 +45,8 @@ pub record KnownRows : Type 0 where
   pub behind : Rows
   pub laid_ahead : Laid
   pub laid_behind : Laid
+  pub kept_ahead : List Kept
+  pub kept_behind : List Kept
   pub quiet : List Require
 
 -- the ends that are kept of them
@@ -77,6 +82,11 @@ abbrev pub GoOnBehind : Option Pair → Sides → Box → Laid → Type 0
 GoOnBehind None ends b l = Unit {0}
 GoOnBehind (Some p) ends b l = GoOn (sight p.reverse ends) (in_order FromLast b) l.rows l.from
 
+-- what is kept of the backward rows is right; a machine that can't be split has none
+abbrev pub AreKeptBehind : Option Pair → Sides → Box → List Kept → Type 0
+AreKeptBehind None ends b kept = Unit {0}
+AreKeptBehind (Some p) ends b kept = AreKept (sight p.reverse ends) (in_order FromLast b) kept
+
 -- the rows of a machine are rows of these cells, and the requirements that are kept with them drop no value there
 pub record AreRowsOf (cells : Box) (t : KnownRows) : Type 0 where
   pub ahead : AreFirst (sight t.machine.forward (ends_of t)) (in_order FromFirst cells) t.ahead
@@ -84,6 +94,8 @@ pub record AreRowsOf (cells : Box) (t : KnownRows) : Type 0 where
   pub laid_ahead : GoOn (sight t.machine.forward (ends_of t))
       (in_order FromFirst cells) t.laid_ahead.rows t.laid_ahead.from
   pub laid_behind : GoOnBehind t.machine.pair (ends_of t) cells t.laid_behind
+  pub kept_ahead : AreKept (sight t.machine.forward (ends_of t)) (in_order FromFirst cells) t.kept_ahead
+  pub kept_behind : AreKeptBehind t.machine.pair (ends_of t) cells t.kept_behind
   pub quiet : (r : Require) → Contains t.quiet r → IsQuiet t.machine cells r
 
 -- they are rows of the box, of the cells that the machine looks at
@@ -113,10 +125,6 @@ pub record IsChange (c : Change) (cells later : Box) : Type 0 where
   pub differ : DifferFrom c.first c.last c.count cells later
   pub gone_first : AreLost c.gone_first (get_or cells c.first []) (get_or later c.first [])
   pub gone_last : AreLost c.gone_last (get_or cells (c.last - 1) []) (get_or later (c.last - 1) [])
-
--- what was known of cells is, as far as it's left, known of all that they may become by the change
-abbrev pub StayKnown : Change → KnownRows → KnownRows → Type 0
-StayKnown c old new = (cells later : Box) → IsChange c cells later → AreRowsOf cells old → AreRowsOf later new
 
 -- the rows of cell k of these are known; of the last cell the forward one is enough
 pub record HasRowsAt (k : ℕ) (cells : Box) (t : KnownRows) : Type 0 where

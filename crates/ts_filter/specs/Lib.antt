@@ -24,6 +24,7 @@ pub mod Reading
 pub mod RefutedWorseDrop
 pub mod Room
 pub mod RowStacks
+pub mod RowWindows
 pub mod Rules
 pub mod SoFar
 pub mod Steps

@@ -3,12 +3,11 @@
 ghost use Rattle.std.specs.Prelude.{◌<◌, ◌≤◌};
 
 /// Values that a cell has lost and that stood side by side there: those at the places from `from` up to `to`, counted
-/// from 0. `left` is how many stay.
+/// from 0.
 #[derive(Clone, Copy)]
 pub(crate) struct Gone {
     pub(crate) from: usize,
     pub(crate) to: usize,
-    pub(crate) left: usize,
     pub(crate) ghost ordered: { from ≤ to },
 }
 

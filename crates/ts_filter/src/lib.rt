@@ -6,8 +6,8 @@
 //! there are, and looks at no further pair of states once some number of a span does what is asked. `AllTables` answers
 //! the same questions for the machines of all terms, of a box that was brought before, and keeps the rows: those that a
 //! change of the box doesn't reach serve the next box, and so do those after a row that comes out as it was; where a
-//! cell only lost values, its row is cut down to the others. `bring` finds out by itself what has changed.
-//! At cells of which its user knows that they have no drop (`KeptCells`) nothing is asked.
+//! cell only lost values, its row shows the others, and shows lost ones again once they are back. `bring` finds out by
+//! itself what has changed. At cells of which its user knows that they have no drop (`KeptCells`) nothing is asked.
 //! The definitions state the rule of each line of a certificate, when a certificate is accepted, its first failing line
 //! and what its claim means; by the laws an accepted certificate means what it claims, whoever wrote it, wherever spans
 //! hold the values of their terms.
@@ -40,6 +40,7 @@ mod enough;
 mod enough_form;
 mod excluded;
 mod first_cell;
+mod found;
 mod gone;
 mod held_machine;
 mod kept;

@@ -17,11 +17,7 @@ pub(crate) fn gone_between(before: &[i64], now: &[i64]) -> Option<Gone>
     if before[to..] != now[from..] {
         return None;
     }
-    Some(Gone {
-        from,
-        to,
-        left: now.len(),
-    })
+    Some(Gone { from, to })
 }
 
 /// How many values at the beginning are the earlier ones.

@@ -3,7 +3,7 @@
 ghost use Rattle.std.specs.Prelude.{◌≡◌, ◌<◌, ◌≤◌, [], IfOk, OnOk, get_or, length};
 ghost use Rattle.ts_filter.specs.KnownRows.{AreRows};
 ghost use Rattle.ts_filter.specs.Reading.{IsBefore, cells_read};
-ghost use Rattle.ts_filter.specs.RowStacks.{HasStates, hulls_in, rows_seen, seen_by};
+ghost use Rattle.ts_filter.specs.RowStacks.{IsLaid, hulls_in, rows_seen, seen_by, shown};
 
 use crate::reading::Reading;
 use crate::row_stack::{HullRow, RowStack};
@@ -99,8 +99,9 @@ fn next_row(
     requires known { AreRows a.now (cells_read reading) rows.now }
     requires before { IsBefore (cells_read reading) (length rows.now.known) lists.old.before }
     ensures here { IfOk result (λ row. lists.new.here ≡ get_or (cells_read reading.entry) (length rows.now.known) []) }
-    ensures states { IfOk result (λ row. HasStates rows.now.planned row.packed) }
-    ensures hulls { IfOk result (λ row. hulls_in rows.now.planned.states row.packed
+    ensures laid { IfOk result (λ row. IsLaid rows.now.planned row) }
+    ensures none { IfOk result (λ row. row.values.items ≡ []) }
+    ensures hulls { IfOk result (λ row. hulls_in rows.now.planned.states (shown row)
         ≡ get_or (rows_seen (seen_by a.now rows.now.planned) (cells_read reading.entry)) (length rows.now.known) []) }
 {
     let i = rows.len();
@@ -111,12 +112,13 @@ fn next_row(
         let first = spare.started(alloc, a, lists.here.lend())?;
         return Ok(first);
     }
+    let before = rows.row(i - 1);
     let row = spare.stepped(
         alloc,
         a,
         rows.plan(),
         lists.before.lend(),
-        rows.row(i - 1),
+        &before,
         lists.here.lend(),
     )?;
     Ok(row)
