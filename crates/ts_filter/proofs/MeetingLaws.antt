@@ -5,10 +5,8 @@ use Rattle.std.proofs.Math.Seq.{map-set_same}
 use Rattle.std.proofs.lemmas.List.{get_or-set_other, length-map}
 use Rattle.std.proofs.lemmas.List.Elements.{All-from_recursion, AllWithin-more_set}
 use Rattle.ts_bound.specs.TermSpans.{Automata, LooksIn}
-use Rattle.ts_filter.specs.declared.gone.Other.{Other}
 use Rattle.ts_filter.specs.Boxes.{Box}
 use Rattle.ts_filter.specs.KnownRows.{KnownRows, AreKnown, AreRowsOf}
-use Rattle.ts_filter.specs.Others.{AreOthers, StayKnownOn}
 use Rattle.ts_filter.specs.Tables.{AreRowsOfEach, machines_of}
 
 abbrev machine_of : KnownRows → Automata
@@ -31,17 +29,17 @@ one_forgotten old each each' term x y h lt is machine known now = record {
   known = λ b. subst (λ l. AllWithin (AreKnown b) l 0 (term + 1)) (sym now) (AllWithin-more_set each term y lt (AreKnown b) (h.known b) (known _));
 }
 
--- those before `term` follow the others
+-- those before `term` follow a box to a later one
 
-pub record HaveMet (others : List Other) (n : ℕ) (old each : List KnownRows) (term : ℕ) : Type 0 where
+pub record HaveMet (cells later : Box) (old each : List KnownRows) (term : ℕ) : Type 0 where
   pub machines : machines_of each ≡ machines_of old
   pub rest : (k : ℕ) (d : KnownRows) → term ≤ k → get_or each k d ≡ get_or old k d
-  pub met : (cells later : Box) → length cells ≡ n → AreOthers others cells later → AreRowsOfEach cells old → AllWithin (AreKnown later) each 0 term
+  pub met : AreRowsOfEach cells old → AllWithin (AreKnown later) each 0 term
 
 pub as_many : (old each : List KnownRows) → machines_of each ≡ machines_of old → length each ≡ length old
 as_many old each h = sym (length-map each machine_of) ∙ ap length h ∙ length-map old machine_of
 
-module _ (others : List Other) (n : ℕ) (old each : List KnownRows) (term : ℕ) (x : KnownRows) (h : HaveMet others n old each term) (lt : term < length each)
+module _ (cells later : Box) (old each : List KnownRows) (term : ℕ) (x : KnownRows) (h : HaveMet cells later old each term) (lt : term < length each)
     (is : x ≡ get_or each term x) where
   -- the next one is as it was
 
@@ -51,21 +49,23 @@ module _ (others : List Other) (n : ℕ) (old each : List KnownRows) (term : ℕ
   there : term < length old
   there = subst (λ m. term < m) (as_many old each h.machines) lt
 
-  pub one_met : (each' : List KnownRows) (y : KnownRows) → y.machine ≡ x.machine → StayKnownOn others n x y → each' ≡ set each term y →
-      HaveMet others n old each' (term + 1)
+  pub looks_next : All (λ t. LooksIn t.machine later) old → LooksIn x.machine later
+  looks_next looks = subst (λ (t : KnownRows). LooksIn t.machine later) as_it_was (looks term x there)
+
+  pub one_met : (each' : List KnownRows) (y : KnownRows) → y.machine ≡ x.machine → (AreKnown cells x → AreKnown later y) → each' ≡ set each term y →
+      HaveMet cells later old each' (term + 1)
   one_met each' y machine stay now = record {
     machines = same_machines each each' term x y is machine now ∙ h.machines;
     rest = λ k d le. ap (λ l. get_or l k d) now ∙ get_or-set_other each term k y d (λ e. omega (arith, le, e)) ∙ h.rest k d (omega (arith, le));
-    met = λ cells later count o known.
+    met = λ known.
         subst (λ l. AllWithin (AreKnown later) l 0 (term + 1)) (sym now)
-        (AllWithin-more_set each term y lt (AreKnown later) (h.met cells later count o known)
-        (stay cells later count o (subst (AreKnown cells) as_it_was (known term x there))));
+        (AllWithin-more_set each term y lt (AreKnown later) (h.met known) (stay (subst (AreKnown cells) as_it_was (known term x there))));
   }
 
-pub all_met : (others : List Other) (n : ℕ) (old each : List KnownRows) (term : ℕ) → HaveMet others n old each term → length old ≤ term →
-    (cells later : Box) → length cells ≡ n → AreOthers others cells later → AreRowsOfEach cells old → AreRowsOfEach later each
-all_met others n old each term h end cells later count o known = λ k d lt.
-    let long = as_many old each h.machines in h.met cells later count o known k d (omega arith) (omega (arith, lt, long, end))
+pub all_met : (cells later : Box) (old each : List KnownRows) (term : ℕ) → HaveMet cells later old each term → length old ≤ term →
+    AreRowsOfEach cells old → AreRowsOfEach later each
+all_met cells later old each term h end known = λ k d lt.
+    let long = as_many old each h.machines in h.met known k d (omega arith) (omega (arith, lt, long, end))
 
 -- the machines look inside the box
 pub looks_each : (b : Box) (each : List KnownRows) → AllByRecursion (λ a. LooksIn a b) (machines_of each) → All (λ t. LooksIn t.machine b) each

@@ -1,21 +1,22 @@
 -- Cells that differ from those that were seen: how they are found and taken over, and what they change in a window.
 use Rattle.std.proofs.Common.{◌≡◌, ◌⊎◌, inl, inr, ⊎_elim, ℕ, min, ◌+◌, ◌-◌, ◌<◌, ◌≤◌, ℤ, List, [], ◌∷◌, ◌++◌, length, take, drop, set, get_or, Option, Some, None, refl, sym, ap, ◌∙◌, subst, arith}
-use Rattle.std.specs.Prelude.{IfSome}
+use Rattle.std.specs.Prelude.{IfSome, slice_range}
 use Rattle.std.specs.List.{All}
 use Rattle.std.proofs.lemmas.Bool.{cases_eq}
-use Rattle.std.proofs.lemmas.List.{drop_all, drop_more, ext_get_or, get_or_default, get_or-drop, get_or-set_other, get_or-set_same, get_or-take, length-drop, length-set, length-take}
+use Rattle.std.proofs.lemmas.List.{drop_all, drop_more, ext_get_or, get_or_default, get_or-drop, get_or-set_other, get_or-set_same, get_or-take, length-drop, length-set, length-take, take_all}
 use Rattle.std.proofs.lemmas.List.Elements.{All-cons, All-contains, All-nil, All-pop, All-push, All-weaker, Contains-append_left, Contains-push}
 use Rattle.ts_base.specs.declared.range.Range.{Range}
 use Rattle.ts_base.specs.Windows.{LooksInside, looked_at}
 use Rattle.ts_bound.specs.Looks.{first_looked, last_looked}
+use Rattle.ts_bound.specs.TermSpans.{LooksIn}
 use Rattle.ts_bound.proofs.Looking.{ends_inside, looked_length}
 use Rattle.ts_filter.specs.declared.gone.Change.{Change}
 use Rattle.ts_filter.specs.declared.gone.Gone.{Gone}
 use Rattle.ts_filter.specs.declared.gone.Other.{Other}
 use Rattle.ts_filter.specs.Boxes.{Box}
 use Rattle.ts_filter.specs.Gone.{AreLost}
-use Rattle.ts_filter.specs.KnownRows.{KnownRows, AreKnown, AreRowsOf, IsChange, StayKnown}
-use Rattle.ts_filter.specs.Others.{AreOthers, Covers, HasLost, IsCovered, IsElsewhere, IsWidened, StayKnownOn}
+use Rattle.ts_filter.specs.KnownRows.{KnownRows, AreKnown, AreRowsOf, IsChange}
+use Rattle.ts_filter.specs.Others.{AreOthers, Covers, HasLost, IsCovered, IsElsewhere, IsWidened}
 use Rattle.ts_filter.proofs.Looked.{forward_cell}
 
 -- what this cell has lost
@@ -239,24 +240,35 @@ module _ (others : List Other) (cells later : Box) (w : Option Range) (from to :
 
 -- tables that follow it
 
-module _ (others : List Other) (n from to : ℕ) (old new : KnownRows) (looks : LooksInside n old.machine.window)
-    (is_from : from ≡ first_looked old.machine.window - 1)
-    (is_to : to ≡ last_looked old.machine.window n) (machine : new.machine ≡ old.machine) where
-  moved : (later : Box) → AreRowsOf (looked_at old.machine.window later) new → AreKnown later new
-  moved later h = subst (λ a. AreRowsOf (looked_at a.window later) new) (sym machine) h
+window_part : (w : Option Range) (xs : Box) → slice_range xs (first_looked w - 1) (last_looked w (length xs)) ≡ looked_at w xs
+window_part None xs = take_all (length xs - 0) xs (omega arith)
+window_part (Some r) xs = refl
 
-  pub none_differs : IsCovered from to others None → new ≡ old → StayKnownOn others n old new
-  none_differs out is = λ cells later count h known.
-      let w = old.machine.window in
-      moved later
-      (subst (AreRowsOf (looked_at w later)) (sym is)
-      (subst (λ z. AreRowsOf z old)
-      (sym (all_same others cells later w from to h (subst (λ m. LooksInside m w) (sym count) looks) is_from
-      (is_to ∙ ap (last_looked w) (sym count)) out)) known))
+module _ (others : List Other) (cells later : Box) (t : KnownRows) (h : AreOthers others cells later) (looks : LooksIn t.machine later) (from to : ℕ)
+    (is_from : from ≡ first_looked t.machine.window - 1) (is_to : to ≡ last_looked t.machine.window (length later)) where
+  abbrev Seen : Box
+  Seen = looked_at t.machine.window cells
 
-  pub some_differ : (c : Change) → Covers from to others c → StayKnown c old new → StayKnownOn others n old new
-  some_differ c v stay = λ cells later count h known.
-      let w = old.machine.window in
-      moved later
-      (stay (looked_at w cells) (looked_at w later)
-      (is_change others cells later w from to h (subst (λ m. LooksInside m w) (sym count) looks) is_from (is_to ∙ ap (last_looked w) (sym count)) c v) known)
+  looks_before : LooksInside (length cells) t.machine.window
+  looks_before = subst (λ n. LooksInside n t.machine.window) h.count looks
+
+  to_before : to ≡ last_looked t.machine.window (length cells)
+  to_before = is_to ∙ ap (last_looked t.machine.window) h.count
+
+  part_is : (part : Box) → part ≡ slice_range cells from to → part ≡ Seen
+  part_is part is =
+      is ∙ ap (λ f. slice_range cells f to) is_from ∙ ap (slice_range cells (first_looked t.machine.window - 1)) to_before
+      ∙ window_part t.machine.window cells
+
+  pub none_differs : IsCovered from to others None → AreKnown cells t → AreKnown later t
+  none_differs out known =
+      subst (λ z. AreRowsOf z t) (sym (all_same others cells later t.machine.window from to h looks_before is_from to_before out)) known
+
+  pub change_there : (c : Change) → Covers from to others c → (part : Box) → part ≡ slice_range cells from to →
+      IsChange c part (looked_at t.machine.window later)
+  change_there c v part is =
+      subst (λ z. IsChange c z (looked_at t.machine.window later)) (sym (part_is part is))
+      (is_change others cells later t.machine.window from to h looks_before is_from to_before c v)
+
+  pub seen_there : (part : Box) → part ≡ slice_range cells from to → AreKnown cells t → AreRowsOf part t
+  seen_there part is known = subst (λ z. AreRowsOf z t) (sym (part_is part is)) known

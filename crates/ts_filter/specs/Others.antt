@@ -7,7 +7,6 @@ use Rattle.ts_filter.specs.declared.gone.Gone.{Gone}
 use Rattle.ts_filter.specs.declared.gone.Other.{Other}
 use Rattle.ts_filter.specs.Boxes.{Box}
 use Rattle.ts_filter.specs.Gone.{AreLost}
-use Rattle.ts_filter.specs.KnownRows.{KnownRows, AreKnown}
 
 -- none of them is at place i
 abbrev pub IsElsewhere : List Other → ℕ → Type 0
@@ -43,8 +42,3 @@ pub record IsWidened (c : Change) (place : ℕ) (gone : Option Gone) (w : Change
   pub to : (c.last ≤ w.last) × (place < w.last)
   pub first : ((w.first ≡ c.first) × (w.gone_first ≡ c.gone_first)) ⊎ ((w.first ≡ place) × (w.gone_first ≡ gone))
   pub last : ((w.last ≡ c.last) × (w.gone_last ≡ c.gone_last)) ⊎ ((w.last ≡ place + 1) × (w.gone_last ≡ gone))
-
--- what was known of a box of n cells is, as far as it's left, known of the box that it becomes where these cells differ
-abbrev pub StayKnownOn : List Other → ℕ → KnownRows → KnownRows → Type 0
-StayKnownOn others n old new =
-    (cells later : Box) → length cells ≡ n → AreOthers others cells later → AreKnown cells old → AreKnown later new

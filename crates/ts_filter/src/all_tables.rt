@@ -92,9 +92,9 @@ impl<'a> AllTables<'a> {
         Ok(AllTables::of(alloc, each, keeps))
     }
 
-    /// Makes the tables those of this box, and so forgets the rows that depend on a cell that differs; of a cell that
-    /// only lost values these are cut out. Each cell is compared once, whatever number of terms look at it. After
-    /// `Memory` they are of some box.
+    /// Makes the tables those of this box, and so forgets the rows that depend on a cell that differs. The row of a
+    /// cell that only lost values shows the others alone, and shows these again once they are back. Each cell is
+    /// compared once, whatever number of terms look at it. After `Memory` they are of some box.
     pub fn bring(&mut self, alloc: Global, cells: &Boxed) -> Result<(), Memory>
         requires looks { AllByRecursion (λ a. LooksIn a cells.now.present) self.old.machines }
         ensures machines { self.new.machines ≡ self.old.machines }

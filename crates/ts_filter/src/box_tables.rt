@@ -2,17 +2,17 @@
 //! `at_cell`, `first_cell`, `drops` and `kept`.
 
 ghost use Rattle.std.specs.Prelude.{◌≡◌, ◌↔◌, ◌≤◌, [], IfSome, IsTrue, MatchOption, OnOk, None, length};
-ghost use Rattle.ts_base.specs.Windows.{LooksInside, looked_at};
+ghost use Rattle.ts_base.specs.Windows.{looked_at};
 ghost use Rattle.ts_bound.specs.Looks.{count_looked, first_looked, is_looked, last_looked, read_at};
 ghost use Rattle.ts_bound.specs.TermSpans.{LooksIn, automata_of};
 ghost use Rattle.ts_filter.specs.Boxes.{Box};
 ghost use Rattle.ts_filter.specs.Alike.{IsServed};
-ghost use Rattle.ts_filter.specs.AnyRows.{IsFormOf, form_of, form_sides};
+ghost use Rattle.ts_filter.specs.AnyRows.{IsFormOf, form_of, form_sides, viewed};
 ghost use Rattle.ts_filter.specs.CellHulls.{HasHulls, IsBackSide, Serves, at_cell};
 ghost use Rattle.ts_filter.specs.HeldMachine.{machine_in};
 ghost use Rattle.ts_filter.specs.KnownRows.{AreKnown, AreRowsOf, HasJoints, HasRows, IsPlannedBack, ends_of};
-ghost use Rattle.ts_filter.specs.KnownRows.{KnownWhereNone, StayKnown, StillKnown};
-ghost use Rattle.ts_filter.specs.Others.{StayKnownOn};
+ghost use Rattle.ts_filter.specs.KnownRows.{IsChange, KnownWhereNone, StillKnown};
+ghost use Rattle.ts_filter.specs.Others.{AreOthers};
 ghost use Rattle.ts_filter.specs.RowStacks.{no_rows, nothing_laid};
 ghost use Rattle.ts_filter.specs.TermDrops.{AreAmong};
 ghost use Rattle.ts_glue.specs.Machines.{forward_of, pair_of};
@@ -33,7 +33,7 @@ use std::marker::Model;
 use std::mem;
 use ts_base::Memory;
 use ts_bound::{ends, is_looked, looked_count, read_at};
-use ts_domain::Boxed;
+use ts_domain::{Boxed, Domain};
 use ts_glue::Machine;
 use ts_meet::Joints;
 use ts_model::Require;
@@ -76,6 +76,8 @@ impl<'a> Model for BoxTables<'a> {
       behind = t.behind.known;
       laid_ahead = t.ahead.laid;
       laid_behind = t.behind.laid;
+      kept_ahead = t.ahead.kept;
+      kept_behind = t.behind.kept;
       quiet = t.quiet.items;
     } };
 
@@ -104,30 +106,59 @@ impl<'a> BoxTables<'a> {
         }
     }
 
-    /// Follows a box of `n` cells where these are no longer as they were.
-    pub(crate) fn meet_others(&mut self, others: &Others, n: u32)
-        requires { LooksInside n self.old.machine.window }
+    /// Follows a box from the domains `seen` to `cells`, which differ in these cells.
+    pub(crate) fn meet_others(&mut self, others: &Others, seen: &[Domain], cells: &Boxed)
+        requires looks { LooksIn self.old.machine cells.now.present }
+        requires others { AreOthers others.now.each.items seen.now cells.now.present }
         ensures machine { self.new.machine ≡ self.old.machine }
-        ensures known { StayKnownOn others.now.each.items n self.old self.new }
+        ensures known { AreKnown seen.now self.old → AreKnown cells.now.present self.new }
     {
-        let (first, last) = ends(self.machine.get().window(), n);
-        match others.change_within(first as usize - 1, last as usize) {
-            Some(change) => self.changed(change),
+        let (first, last) = self.ends(cells);
+        let from = first as usize - 1;
+        let to = last as usize;
+        let inside = &seen[from..to];
+        match others.change_within(from, to) {
+            Some(change) => self.changed(change, inside, cells),
             None => {}
         }
     }
 
-    /// Forgets the rows that a change of the cells that are looked at reaches. The forward row of the first cell that
-    /// changes may stay known, without the values that this cell has lost, and so may the backward row of the last one.
-    fn changed(&mut self, change: Change)
+    /// Forgets the rows that a change of the cells that are looked at reaches; these had the domains `seen`. The
+    /// forward row of the first cell that changes may stay known, or be known again, with the values that this cell has
+    /// now, and so may the backward row of the last one.
+    fn changed(&mut self, change: Change, seen: &[Domain], cells: &Boxed)
+        requires looks { LooksIn self.old.machine cells.now.present }
+        requires change { IsChange change seen.now (looked_at self.old.machine.window cells.now.present) }
         ensures machine { self.new.machine ≡ self.old.machine }
-        ensures known { StayKnown change self.old self.new }
+        ensures known { AreRowsOf seen.now self.old → AreKnown cells.now.present self.new }
     {
+        let window = self.machine.get().window();
+        let ahead = Reading {
+            cells,
+            window,
+            way: Way::FromFirst,
+        };
+        let behind = Reading {
+            cells,
+            window,
+            way: Way::FromLast,
+        };
         let unreached = change.count - change.last;
-        self.ahead
-            .leave(change.first, change.last, change.gone_first);
-        self.behind
-            .leave(unreached, change.count - change.first, change.gone_last);
+        let reached = change.count - change.first;
+        self.ahead.leave(
+            change.first,
+            change.last,
+            change.gone_first,
+            &seen[change.first],
+            ahead.at(change.first),
+        );
+        self.behind.leave(
+            unreached,
+            reached,
+            change.gone_last,
+            &seen[change.last - 1],
+            behind.at(unreached),
+        );
         self.quiet.clear();
     }
 
@@ -324,7 +355,7 @@ impl<'a> BoxTables<'a> {
         requires there { HasRows k cells.now.present self.now }
         ensures side { MatchOption result (k ≡ last_looked self.now.machine.window (length cells.now.present))
             (IsBackSide self.now.machine k cells.now.present) }
-        ensures form { IfSome result (λ side. form_of side.row.now ≡ self.now.form) }
+        ensures form { IfSome result (λ side. form_of (viewed side.row) ≡ self.now.form) }
     {
         if k == last {
             return None;

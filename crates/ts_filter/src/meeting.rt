@@ -2,7 +2,6 @@
 
 ghost use Rattle.std.specs.Prelude.{◌≡◌, ◌<◌, IfOk, OnOk, length};
 ghost use Rattle.std.specs.List.{All};
-ghost use Rattle.ts_base.specs.Windows.{LooksInside};
 ghost use Rattle.ts_bound.specs.TermSpans.{LooksIn};
 ghost use Rattle.ts_filter.specs.Boxes.{Box};
 ghost use Rattle.ts_filter.specs.Others.{AreOthers};
@@ -37,11 +36,9 @@ pub(crate) fn meet(
         return Ok(());
     }
     others.find(seen.as_slice(), cells)?;
+    all_meet(each, others, seen.as_slice(), cells);
     match take_over(seen, others, cells) {
-        Ok(()) => {
-            all_meet(each, others, cells.cells());
-            Ok(())
-        }
+        Ok(()) => Ok(()),
         Err(stop) => {
             forget_all(each);
             Err(stop)
@@ -85,14 +82,14 @@ fn take_over(seen: &mut Vec<Domain>, others: &Others, cells: &Boxed) -> Result<(
     Ok(())
 }
 
-/// Forgets of each term's rows those that the change of these cells of `n` reaches.
-fn all_meet(each: &mut Vec<BoxTables<'_>>, others: &Others, n: u32)
-    requires { All (λ t. LooksInside n t.machine.window) each.old.items }
+/// Forgets of each term's rows those that the change of these cells reaches, from the domains `seen` to `cells`.
+fn all_meet(each: &mut Vec<BoxTables<'_>>, others: &Others, seen: &[Domain], cells: &Boxed)
+    requires looks { All (λ t. LooksIn t.machine cells.now.present) each.old.items }
+    requires others { AreOthers others.now.each.items seen.now cells.now.present }
     ensures machines { machines_of each.new.items ≡ machines_of each.old.items }
-    ensures known { (cells later : Box) → length cells ≡ n → AreOthers others.now.each.items cells later →
-        AreRowsOfEach cells each.old.items → AreRowsOfEach later each.new.items }
+    ensures known { AreRowsOfEach seen.now each.old.items → AreRowsOfEach cells.now.present each.new.items }
 {
     for term in 0..each.len() {
-        each[term].meet_others(others, n);
+        each[term].meet_others(others, seen, cells);
     }
 }
