@@ -24,16 +24,22 @@ values_from window k (values ∷ cells) = counted_at window k values + values_fr
 abbrev pub hull_bytes : Body → ℕ
 hull_bytes a = if a.wide then 80 else 48
 
+-- what a value takes in the lists of values that are kept with rows, one list for each direction
+abbrev pub listed_bytes : ℕ
+listed_bytes = 16
+
 -- what the rows of a machine take, of a box with these cells
 abbrev pub row_bytes : Automata → Box → ℕ
-row_bytes m cells = values_from m.window 1 cells * (length m.forward.states + back_states m.pair) * hull_bytes m.forward
+row_bytes m cells =
+    values_from m.window 1 cells
+    * ((length m.forward.states + back_states m.pair) * hull_bytes m.forward + listed_bytes)
 
 -- what those of several take
 abbrev pub all_bytes : List Automata → Box → ℕ
 all_bytes [] cells = 0
 all_bytes (m ∷ ms) cells = row_bytes m cells + all_bytes ms cells
 
--- each row may have memory for twice its hulls, and all together for 200,000,000 bytes
+-- each row may have memory for twice its hulls and values, and all together for 200,000,000 bytes
 abbrev pub most_bytes : ℕ
 most_bytes = 100000000
 

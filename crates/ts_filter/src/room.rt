@@ -18,8 +18,11 @@ const NARROW_HULL: u64 = 48;
 
 const WIDE_HULL: u64 = 80;
 
+/// What a value of a cell takes in the lists of values that are kept with rows, one list per direction.
+const LISTED: u64 = 16;
+
 /// How many bytes the rows of all machines may take, except for one spare row per direction with the values of its cell
-/// and of the cell before. Each row may have memory for twice its hulls.
+/// and of the cell before. Each row may have memory for twice its hulls and values.
 const MOST: u64 = 200_000_000;
 
 /// For how many values each row may have memory, however few it holds: so a cell whose values come and go has its rows
@@ -42,8 +45,8 @@ pub(crate) fn has_room(machines: &[Machine], cells: &[Domain]) -> bool
 fn bytes_of(m: &Machine, cells: &[Domain]) -> u64
     ensures { result ≡ saturated (row_bytes (automata_of m.now) cells.now) }
 {
-    let hulls = product(values_of(m.window(), cells), states_of(m));
-    product(hulls, hull_of(m))
+    let each = sum(product(states_of(m), hull_of(m)), LISTED);
+    product(values_of(m.window(), cells), each)
 }
 
 /// The sum of two numbers, or the greatest number.
