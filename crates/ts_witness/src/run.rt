@@ -1,6 +1,6 @@
 //! Where an automaton stands after each beginning of a series whose cells change.
 
-ghost use Rattle.std.specs.Prelude.{◌≡◌, ◌<◌, ◌≤◌, ◌+◌, ◌++◌, ◌∷◌, [], IfOk, IsTrue, length, set, take};
+ghost use Rattle.std.specs.Prelude.{◌≡◌, ◌↔◌, ◌<◌, ◌≤◌, ◌+◌, ◌++◌, ◌∷◌, [], IfOk, IsTrue, length, set, take};
 ghost use Rattle.ts_automaton.specs.Body.{Body};
 ghost use Rattle.ts_automaton.specs.AutomatonRun.{Stands, after, standing_of};
 ghost use Rattle.ts_witness.specs.Runs.{IsSide, Runs, cells_in};
@@ -35,7 +35,7 @@ impl Side {
 
 /// Whether all registers hold the same.
 fn are_same(a: &Regs, b: &Regs) -> bool
-    ensures { IsTrue result → a.now ≡ b.now }
+    ensures { IsTrue result ↔ (a.now ≡ b.now) }
 {
     if !is_one(a.r, b.r) {
         return false;
@@ -54,7 +54,7 @@ fn are_same(a: &Regs, b: &Regs) -> bool
 
 /// Whether both are one number.
 fn is_one(a: Ext, b: Ext) -> bool
-    ensures { IsTrue result → a ≡ b }
+    ensures { IsTrue result ↔ (a ≡ b) }
 {
     match (a, b) {
         (Ext::Int(x), Ext::Int(y)) => x == y,

@@ -1,6 +1,7 @@
 //! What is known of the values of each cell, so that it isn't asked again where the runs have come to the same.
 
-ghost use Rattle.std.specs.Prelude.{◌≡◌, ◌≤◌, ◌≤ℤ◌, ◌-◌, ℤ, [], Contains, IfOk, IfSome, IsSome, IsTrue, List, None, Some};
+ghost use Rattle.std.specs.Prelude.{◌≡◌, ◌↔◌, ◌≤◌, ◌≤ℤ◌, ◌-◌, ℤ, [], Contains, IfOk, IfSome, IsSome, IsSomeAnd, IsTrue};
+ghost use Rattle.std.specs.Prelude.{List, None, Some};
 ghost use Rattle.std.specs.Prelude.{false, get_or, if◌then◌else◌, is_none, length, slice_get};
 ghost use Rattle.ts_automaton.specs.AutomatonRun.{AreCellValues};
 ghost use Rattle.ts_base.specs.Limits.{IsCellValue, most_cells};
@@ -202,7 +203,7 @@ impl<'a> Spared<'a> {
 
 /// Whether there is a number, from `low` to `high`.
 fn is_between(v: Option<i64>, low: i64, high: i64) -> bool
-    ensures { v ≡ None → result ≡ false }
+    ensures { IsTrue result ↔ IsSomeAnd v (λ x. (low ≤ℤ x) × (x ≤ℤ high)) }
 {
     match v {
         Some(v) => low <= v && v <= high,
