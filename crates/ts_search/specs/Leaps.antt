@@ -1,5 +1,5 @@
 -- Boxes of which it is known without asking that their lines are splits.
-use Rattle.std.specs.Prelude.{◌≡◌, ◌≤◌, ◌≤ℤ◌, ℕ, zero, suc, ℤ, pos, Contains, IsTrue, List, [], ◌∷◌, get_or, length}
+use Rattle.std.specs.Prelude.{◌≡◌, ◌+◌, ◌≤◌, ◌≤ℤ◌, ℕ, zero, suc, ℤ, pos, Contains, IsTrue, List, [], ◌∷◌, get_or, length, min}
 use Rattle.ts_base.specs.declared.ext.Ext.{Ext}
 use Rattle.ts_base.specs.declared.ext.Ext.TheVariants.{NegInf, Int, PosInf}
 use Rattle.ts_automaton.specs.declared.state.Mark.{Mark}
@@ -36,6 +36,11 @@ SplitsIt l (Wide k t) = l ≡ Split k t
 abbrev pub AreSplits : Sought → ℕ → Box → Type 0
 AreSplits q zero b = Unit {0}
 AreSplits q (suc n) b = SplitsIt (line_of q b) (form b) × AreSplits q n (lower b (form b))
+
+-- how many splits came one after the other, once this line is written too: as far as a number of 32 bits tells
+abbrev pub splits_after : TreeLine → ℕ → ℕ
+splits_after (Split k t) n = min (n + 1) 4294967295
+splits_after other n = 0
 
 -- of the boxes that wait, the first one is such a box
 abbrev pub AreAhead : Sought → ℕ → List Box → Type 0

@@ -1,6 +1,6 @@
 //! What witnesses show of drops, marked before any is looked for.
 
-ghost use Rattle.std.specs.Prelude.{◌≡◌, ◌+◌, ◌<◌, ℤ, IfSome, IsTrue, Some, length, slice_get};
+ghost use Rattle.std.specs.Prelude.{◌≡◌, ◌↔◌, ◌+◌, ◌<◌, ℤ, IfSome, IsTrue, Some, length, slice_get};
 ghost use Rattle.ts_domain.specs.BoxSeries.{IsCell};
 ghost use Rattle.ts_filter.specs.Boxes.{IsPart, values_at};
 ghost use Rattle.ts_filter.specs.KeptCells.{IsSpared};
@@ -68,7 +68,7 @@ impl<'a> Witnesses<'a> {
     /// Whether each requirement on the term is known to be met.
     fn all_met(&self, problem: &Problem<'_>, term: u32) -> bool
         requires { IsPosed problem.now }
-        ensures { IsTrue result → AreMet problem.now self.now term }
+        ensures { IsTrue result ↔ AreMet problem.now self.now term }
     {
         for i in 0..problem.model.requirements.len() {
             if problem.model.requirements[i].term == term && !self.shows(i as u32 + 1) {

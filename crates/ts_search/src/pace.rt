@@ -1,7 +1,7 @@
 //! How many lines to come are known, and when it may pay to find out.
 
 ghost use Rattle.std.specs.Prelude.{◌≡◌, ◌<◌, ◌≤◌, ◌-◌, IfOk, IfSome, IsTrue, OnOk};
-ghost use Rattle.ts_search.specs.Leaps.{AreSplits, ExcludesInside};
+ghost use Rattle.ts_search.specs.Leaps.{AreSplits, ExcludesInside, splits_after};
 ghost use Rattle.ts_search.specs.LineOf.{Sought, line_of};
 ghost use Rattle.ts_search.specs.Posed.{MayBring, MaySeek};
 ghost use Rattle.ts_search.specs.Shown.{AreHeld};
@@ -101,6 +101,7 @@ impl Pace {
     pub(crate) fn pass(&mut self, line: &TreeLine)
         ensures leaps { self.new.leaps ≡ self.old.leaps }
         ensures ahead { self.new.ahead ≡ self.old.ahead - 1 }
+        ensures row { self.new.row ≡ splits_after line.now self.old.row }
     {
         self.ahead = self.ahead.saturating_sub(1);
         self.row = match line {

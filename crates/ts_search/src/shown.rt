@@ -1,12 +1,14 @@
 //! A witness of a requirement, brought into one box after the other.
 
-ghost use Rattle.std.specs.Prelude.{◌≡◌, ◌≤◌, ◌≤ℤ◌, ◌-◌, ℤ, [], Contains, IfOk, IsSome, IsTrue, Some, get_or, length};
-ghost use Rattle.std.specs.Prelude.{slice_get};
+ghost use Rattle.std.specs.Prelude.{◌≡◌, ◌≤◌, ◌≤ℤ◌, ◌-◌, ℤ, [], Contains, IfOk, IsSome, IsTrue, Some};
+ghost use Rattle.std.specs.Prelude.{false, get_or, length, slice_get};
+ghost use Rattle.ts_automaton.specs.AutomatonRun.{answer};
 ghost use Rattle.ts_base.specs.Limits.{most_cells};
 ghost use Rattle.ts_base.specs.Windows.{LooksInside, looked_at};
 ghost use Rattle.ts_bound.specs.TermSpans.{LooksIn, automata_of};
 ghost use Rattle.ts_domain.specs.BoxSeries.{InBox, IsBox};
-ghost use Rattle.ts_glue.specs.Machines.{pair_of, window_of};
+ghost use Rattle.ts_glue.specs.Machines.{forward_of, pair_of, window_of};
+ghost use Rattle.ts_model.specs.Compares.{compares};
 ghost use Rattle.ts_model.specs.declared.model.Require.{Require};
 ghost use Rattle.ts_search.specs.Shown.{IsHeld, Seats};
 ghost use Rattle.ts_witness.specs.Laws.{IsKept};
@@ -151,6 +153,8 @@ impl<'a> Shown<'a> {
         ensures cells { self.new.spared.cells ≡ self.old.spared.cells }
         ensures held { IsHeld r.now self.new }
         ensures series { series_of self.new.witness ≡ series_of self.old.witness }
+        ensures told { self.old.met ≡ false → self.new.met ≡ compares r.now.op r.now.bound
+            (answer (forward_of self.old.machine.now) (series_of self.old.witness)) }
     {
         if !self.met {
             self.met = self.witness.holds(self.machine, r);

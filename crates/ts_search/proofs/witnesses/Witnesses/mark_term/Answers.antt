@@ -18,7 +18,7 @@ index-requires c =
     let q = c.args.problem.now in let w = c.args.self.now in let b = c.args.cells.now.present in
     let on = c.in-Some.ensures in
     let s = met_there q c.requires.posed w b c.requires.part c.requires.marked.shown c.args.term c.in-Some.i on.require
-    (c.all_met.ensures c.if-not-all_met.false) on.there on.on in
+    (c.all_met.ensures.0 c.if-not-all_met.false) on.there on.on in
     let count : vec_len w.each ≡ length w.each.items = search rules in
     let below = slice_get_within w.each.items c.in-Some.i s.0 s.1 in omega (arith, below, count)
 
@@ -27,7 +27,7 @@ overflow_add-cell-end c =
     let q = c.args.problem.now in let w = c.args.self.now in let b = c.args.cells.now.present in
     let on = c.in-Some.ensures in
     let some = met_there q c.requires.posed w b c.requires.part c.requires.marked.shown c.args.term c.in-Some.i on.require
-    (c.all_met.ensures c.if-not-all_met.false) on.there on.on in
+    (c.all_met.ensures.0 c.if-not-all_met.false) on.there on.on in
     let s = c.index.result.now in
     let there = found w.each.items c.in-Some.i s c.index.ensures (slice_get_within w.each.items c.in-Some.i some.0 some.1) in
     let looks = looks_on q c.requires.posed w c.requires.marked.shown.held c.args.term c.in-Some.i s on.require there on.there on.on in
@@ -40,7 +40,7 @@ overflow_add-cell-end c =
 pub loop-cell-init : goal.loop-cell-init
 loop-cell-init c =
     let q = c.args.problem.now in let w = c.args.self.now in let b = c.args.cells.now.present in
-    let met = c.all_met.ensures c.if-not-all_met.false in
+    let met = c.all_met.ensures.0 c.if-not-all_met.false in
     let after : Witnesses = record { each = w.each; kept = c.keep_term.new.self; ends = w.ends } in
     record {
       marked = mark_alive q c.requires.posed w after b refl c.args.term refl c.keep_term.ensures c.requires.part met c.requires.marked;
@@ -53,7 +53,7 @@ mark_cell-requires-clause-cell c =
     let q = c.args.problem.now in let w = c.args.self.now in let b = c.args.cells.now.present in
     let on = c.in-Some.ensures in
     let some = met_there q c.requires.posed w b c.requires.part c.requires.marked.shown c.args.term c.in-Some.i on.require
-    (c.all_met.ensures c.if-not-all_met.false) on.there on.on in
+    (c.all_met.ensures.0 c.if-not-all_met.false) on.there on.on in
     let s = c.index.result.now in
     let there = found w.each.items c.in-Some.i s c.index.ensures (slice_get_within w.each.items c.in-Some.i some.0 some.1) in
     let looks = looks_on q c.requires.posed w c.requires.marked.shown.held c.args.term c.in-Some.i s on.require there on.there on.on in
@@ -71,7 +71,7 @@ mark_cell-requires-clause-spare c =
     let q = c.args.problem.now in let w = c.args.self.now in let b = c.args.cells.now.present in
     let on = c.in-Some.ensures in
     let some = met_there q c.requires.posed w b c.requires.part c.requires.marked.shown c.args.term c.in-Some.i on.require
-    (c.all_met.ensures c.if-not-all_met.false) on.there on.on in
+    (c.all_met.ensures.0 c.if-not-all_met.false) on.there on.on in
     let s = c.index.result.now in
     let there = found w.each.items c.in-Some.i s c.index.ensures (slice_get_within w.each.items c.in-Some.i some.0 some.1) in
     let looks = looks_on q c.requires.posed w c.requires.marked.shown.held c.args.term c.in-Some.i s on.require there on.there on.on in
