@@ -248,7 +248,7 @@ function wanted() {
     }
     return "unknown"
 }
-# Whether it rises somewhere behind a fall.
+# Whether it rises somewhere after a fall.
 function dips(    i, fell) {
     for (i = 1; i < cells; i++) {
         if (x[i + 1] < x[i]) fell = 1

@@ -45,7 +45,7 @@ make_scratch() {
     scratch=$(mktemp -d 2>/dev/null) || fail 74 "there is no room for a folder in ${TMPDIR:-/tmp}"
 }
 
-# [FILE]: the file, or standard input where none is named, in $scratch/input, without the CR in front of a line's end.
+# [FILE]: the file, or standard input where none is named, in $scratch/input, without the CR before a line's end.
 read_input() {
     [ ! -d "${1:-}" ] || fail 66 "$1 is a folder"
     [ -z "${1:-}" ] || [ -f "$1" ] || [ -p "$1" ] || fail 66 "there is no file $1"

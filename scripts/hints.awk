@@ -53,13 +53,13 @@ function why_no_name(word) {
 
 function why_no_number(word,    part) {
     if (word ~ /^#/) return "a comment has a line of its own"
-    if (word ~ /,$/ || split(word, part, /,/) > 2) return "blanks, not commas, stand between numbers"
+    if (word ~ /,$/ || split(word, part, /,/) > 2) return "put blanks between numbers, not commas"
     if (word ~ /^[-+]?[0-9]+[.,][0-9]*$/) return "\"" word "\" is no whole number"
     if (word ~ /^[0-9]+-[0-9]+$/ || word ~ /^-?[0-9]+(\.\.\.+|:)-?[0-9]+$/)
-        return "\"" word "\" is no range: two points stand between its ends, such as 0..9"
-    if (word ~ /\.\.$/ || word ~ /^\.\./) return "no blanks stand around the two points of a range, such as 0..9"
+        return "\"" word "\" is no range: put two points between its ends, such as 0..9"
+    if (word ~ /\.\.$/ || word ~ /^\.\./) return "put no blanks around the two points of a range, such as 0..9"
     if (word ~ /^[-+]?0[0-9]/ || word ~ /^\+[0-9]/ || word == "-0")
-        return "\"" word "\": a number has no + and no 0 in front"
+        return "\"" word "\": a number has no + and no leading 0"
     if (word ~ /^[-+]?(inf|infinity)$/) return "write -inf or +inf, and only as a bound"
     return "\"" shown(word) "\" is no number"
 }
@@ -78,44 +78,45 @@ function first_bad_number(from, ranges,    i, part) {
 function why_tail(    pattern) {
     pattern = word[4] == "count" ? 5 : 6
     if (count < pattern) return ""
-    if (word[pattern] == "in" && count > pattern) return "a pattern stands before in"
+    if (word[pattern] == "in" && count > pattern) return "a pattern comes before in"
     if (count > pattern && word[pattern + 1] != "in")
-        return "behind " (pattern == 5 ? "count stands a pattern alone" : "the pattern nothing stands") ", or in and a range of cells"
-    if (count == pattern + 1) return "behind in stands a range of cells, such as 1..4"
-    return count > pattern + 2 ? "one range of cells stands behind in" : ""
+        return (pattern == 5 ? "count takes a pattern alone" : "after the pattern comes nothing") \
+            ", or in and a range of cells"
+    if (count == pattern + 1) return "after in comes a range of cells, such as 1..4"
+    return count > pattern + 2 ? "after in comes one range of cells" : ""
 }
 
 function why_shape(    i, glued) {
     for (i = 2; i <= count; i++)
         if (word[i] ~ /^#/) return "a comment has a line of its own"
     if (word[1] == "term") {
-        if (count > 1 && word[2] ~ /=/) return "blanks stand around the ="
+        if (count > 1 && word[2] ~ /=/) return "put blanks around the ="
         if (count > 1 && !is_name(word[2])) return why_no_name(word[2])
-        if (count > 2 && word[3] != "=") return "an = with blanks around it stands behind the name"
+        if (count > 2 && word[3] != "=") return "after the name comes an = with blanks around it"
         if (why_tail() != "") return why_tail()
-        if (count == 5) return "an aggregator, a feature and a pattern stand behind the =, or count and a pattern"
+        if (count == 5) return "after the = come an aggregator, a feature and a pattern, or count and a pattern"
     }
     if (word[1] == "require") {
         if (count > 1 && word[2] ~ /[=<>!]/) {
             glued = word[2]
             gsub(/[^=<>!]/, "", glued)
-            return "blanks stand around the " glued
+            return "put blanks around the " glued
         }
         if (count > 1 && !is_name(word[2])) return why_no_name(word[2])
         if (count > 2 && word[3] in signs) return "\"" word[3] "\" is no comparison; did you mean " signs[word[3]] "?"
-        if (count == 3 && word[3] ~ /^[=<>!]/) return "blanks stand around the comparison"
+        if (count == 3 && word[3] ~ /^[=<>!]/) return "put blanks around the comparison"
         if (count > 2 && !is_comparison(word[3])) return "\"" shown(word[3]) "\" is none of = != <= >= < >"
-        if (count > 4) return "one number stands behind the comparison"
+        if (count > 4) return "after the comparison comes one number"
     }
     if (word[1] == "objective" && count == 2) return why_no_name(word[2])
-    return count == 1 ? "something is missing behind the first word" : "a word is missing or too many"
+    return count == 1 ? "something is missing after the first word" : "a word is missing, or there is one too many"
 }
 
 function why_unknown_line(    short) {
-    if (word[1] == "%%") return "a line %% is for check and verify alone, and stands once"
-    if (word[1] == "series") return "a series stands behind a line %%, and is for check and verify alone"
+    if (word[1] == "%%") return "a line %% is for check and verify alone, and comes once"
+    if (word[1] == "series") return "a series comes after a line %%, and is for check and verify alone"
     if (is_listed(word[1], "maximise minimise generate best infeasible budget drop split worse"))
-        return "an answer stands behind a line %%, and is for verify alone"
+        return "an answer comes after a line %%, and is for verify alone"
     if (is_listed(word[1], aggregators " count") && count > 1) {
         short = word[1] " " word[2] (is_listed(word[1], aggregators) && count > 2 ? " " word[3] : "")
         return "this takes two lines: \"term a = " shown(short) "\" and \"require a >= 3\", say"
@@ -159,7 +160,7 @@ function why(kind,    bad) {
     if (kind == "number") {
         if (word[1] == "require") return why_no_number(word[4])
         if (word[1] == "term") return why_no_number(word[count])
-        if (word[1] == "cell" && !is_number(word[2])) return "behind cell stands the number of one cell"
+        if (word[1] == "cell" && !is_number(word[2])) return "after cell comes the number of one cell"
         bad = first_bad_number(word[1] == "cell" ? 3 : 2, word[1] != "cells")
         return bad == "" ? "a number is out of reach" : why_no_number(bad)
     }
@@ -180,18 +181,18 @@ function why(kind,    bad) {
     return kind
 }
 
-# What is wrong behind the line %%.
+# What is wrong after the line %%.
 function why_series(kind) {
-    if (!has_mark) return "no line %% ends the model; behind it stands a line \"series V ..\""
+    if (!has_mark) return "no line %% ends the model; after it comes a line \"series V ..\""
     if (kind == "length") return "the model has " cells " cells, the series " values " numbers"
     if (kind == "number") return "a value is a whole number from -1000000 to 1000000"
-    return "behind the line %% stands one line \"series V ..\" and nothing else; of an answer: grep ^series ANSWER"
+    return "after the line %% comes one line \"series V ..\" and nothing else; of an answer: grep ^series ANSWER"
 }
 
 function why_certificate(number) {
-    if (!has_mark) return "no line %% ends the model; behind it stands the certificate"
-    if (returns) return "a certificate has no CR in front of a line's end: take them out by tr -d '\\r'"
-    return "line " number " behind the line %% isn't as a certificate has it there; is it a whole answer, and no more?"
+    if (!has_mark) return "no line %% ends the model; after it comes the certificate"
+    if (returns) return "a certificate has no CR before a line's end: take them out by tr -d '\\r'"
+    return "line " number " after the line %% isn't as a certificate has it there; is it a whole answer, and no more?"
 }
 
 BEGIN {
@@ -211,7 +212,7 @@ BEGIN {
     form["cells"] = "cells N"
     form["domain"] = "domain R .., where R is a number or a range such as 0..9"
     form["cell"] = "cell K R .., where R is a number or a range such as 0..9"
-    form["term"] = "term NAME = AGGREGATOR FEATURE PATTERN, or term NAME = count PATTERN; behind either, in A..B"
+    form["term"] = "term NAME = AGGREGATOR FEATURE PATTERN, or term NAME = count PATTERN; after either, in A..B"
     form["require"] = "require NAME <= B, where B is a number; also = != >= < >"
     form["objective"] = "objective NAME"
     split(answer, told, " ")

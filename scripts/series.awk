@@ -86,7 +86,7 @@ BEGIN {
 /^(maximise|minimise|generate [0-9]+)$/ { aim = $0; expects_claim = 1; next }
 expects_claim {
     if ($0 !~ /^((best|budget) ([-+]inf|-?[0-9]+)|infeasible|budget none|(full|all) [0-9]+)$/)
-        give_up(65, "line " NR " isn't what stands behind \"" aim "\" in an answer")
+        give_up(65, "line " NR " isn't what comes after \"" aim "\" in an answer")
     claim = $0
     expects_claim = 0
     next

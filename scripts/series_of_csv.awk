@@ -9,7 +9,7 @@ function give_up(text) {
 
 function nearest(x) { return x < 0 ? -nearest(-x) : int(x + 0.5) }
 
-NR == 1 { sub(/^\357\273\277/, "") } # the mark that some programs put in front of UTF-8
+NR == 1 { sub(/^\357\273\277/, "") } # the mark that some programs put before UTF-8
 NR == 1 { parted = /;/ ? ";" : /\t/ ? "\t" : "," }
 /^[ \t]*$/ { next }
 {

@@ -1,4 +1,4 @@
-# Counts in a certificate, behind its model and a line %%, the lines that name each requirement; `why` runs it. Ends
+# Counts in a certificate, after its model and a line %%, the lines that name each requirement; `why` runs it. Ends
 # with 65 where it isn't that. `self` is the name of the script that says so.
 
 function give_up(text) {

@@ -29,7 +29,7 @@ function call(words, input, slow, kind, status, wanted) {
     print id "|" place "|" words "|" kind "|" status > (dir "/calls")
 }
 
-# The model, ended by a line's end, the line %% and what stands behind it.
+# The model, ended by a line's end, the line %% and what comes after it.
 function behind(model, text) {
     return model (model ~ /\n$/ ? "" : "\n") "%%\n" text
 }

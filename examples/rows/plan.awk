@@ -23,7 +23,7 @@ function taken(row) {
     else { print "no form " form; exit 1 }
 }
 
-# A heading has the calls of the rows below, and behind a colon how a refusal begins.
+# A heading has the calls of the rows below, and after a colon how a refusal begins.
 function headed(row,   at) {
     slow = row ~ /^>>/
     sub(/^>+ */, "", row)
@@ -32,7 +32,7 @@ function headed(row,   at) {
     calls = at ? substr(row, 1, at - 1) : row
 }
 
-# What stands before the first bar of `left`, which then begins behind it.
+# What stands before the first bar of `left`, which then begins after it.
 function field(   at, first) {
     at = index(left, "|")
     first = substr(left, 1, at - 1)
