@@ -48,7 +48,7 @@ body_again way m = ap (λ (x : List Node). record m { states = x }) (grouped_aga
 
 -- names that differ
 
--- a letter before isn't a letter behind
+-- a letter before isn't a letter after
 behind_not : (before ns : List StateLine) (b : ℕ) → are_new before ns ≡ true → is_named before b ≡ true → list_any (λ n. n.name == b) ns ≡ false
 behind_not before [] b h k = refl
 behind_not before (n ∷ ns) b h k =

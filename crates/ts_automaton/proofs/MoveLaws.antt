@@ -95,7 +95,7 @@ place_only states w (Some b) k e h =
     let p = named_at states b k h in
     (p.0, letter_only w b e ∙ ap (λ (x : ℕ). x ∷ []) (sym p.1))
 
--- the words for E or F with the `;` behind them and what follows, or what follows alone
+-- the words for E or F with the `;` after them and what follows, or what follows alone
 abbrev extra_then : Bool → W → W → W
 extra_then false e rest = rest
 extra_then true e rest = e ++ (semi ∷ rest)

@@ -67,7 +67,7 @@ lines_apart way (t ∷ ts) states n k b c h g =
     line_apart way states n k b c (λ d. with_lines d (n + 1) ts) (λ d. with_lines d (k + 1) ts)
     (λ s u v. lines_apart way ts (states ++ s ∷ []) (n + 1) (k + 1) b c u v) (without_lf t) h g
 
--- the lines of a body are read behind its head
+-- the lines of a body are read after its head
 body_read : (m : Body) → is_formed m ≡ true → with_lines (AtStates Forward m.wide []) 2 (strict_lines (body_text m)) ≡ Ok (Whole (sheet_of Forward m))
 body_read m formed =
     let b : Sheet = sheet_of Forward m in

@@ -119,7 +119,7 @@ abbrev pub moves_words : Bool → List StateLine → ℕ → List Move → List 
 moves_words wide states k [] = []
 moves_words wide states k (t ∷ ts) = move_words wide states k t ∷ moves_words wide states (k + 1) ts
 
--- the lines behind the head, up to the moves
+-- the lines after the head, up to the moves
 abbrev pub lines_to_moves : Bool → List StateLine → EachOf Ext → List Move → List (List (List ℕ))
 lines_to_moves wide states start moves =
     map state_words states ++ (start_words wide start ∷ moves_words wide states 0 moves)
@@ -134,7 +134,7 @@ abbrev pub body_lines : Bool → List StateLine → EachOf Ext → List Move →
 body_lines wide states start moves finish mark =
     lines_to_finish wide states start moves finish mark ++ ((codes "end" ∷ []) ∷ [])
 
--- the text of the words of a line: single spaces between them, and an LF behind
+-- the text of the words of a line: single spaces between them, and an LF after
 abbrev pub words_text : List (List ℕ) → List ℕ
 words_text [] = []
 words_text (w ∷ ws) = full_line (record { first = w; more = ws })

@@ -1,4 +1,4 @@
--- Expressions are told apart by their words, the operator behind its operands.
+-- Expressions are told apart by their words, the operator after its operands.
 use Rattle.std.specs.Prelude.{◌≡◌, ◌⊎◌, List, [], ◌∷◌, Option, None, Some, refl}
 use Rattle.std.specs.Coded.{Coded, code_by, coded_list, coded_option, coded⊎}
 use Rattle.std.proofs.Common.{inl, inr, ap, ◌∙◌}

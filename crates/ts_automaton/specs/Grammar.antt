@@ -98,7 +98,7 @@ IsOpen (AtMoves way wide states start moves) = Unit {0}
 IsOpen (AtEnd b) = Unit {0}
 IsOpen (Whole b) = ⊥
 
--- the lines stop before the end line, which is named as the line behind them
+-- the lines stop before the end line, which is named as the line after them
 pub record IsCutShort (texts : List (List ℕ)) (number : ℕ) : Type 0 where
   pub prefix : Prefix
   pub is : IsPrefix prefix

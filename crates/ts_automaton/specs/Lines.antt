@@ -118,7 +118,7 @@ abbrev pub onto_cut : List ℕ → Option (List (List ℕ) × List (List ℕ)) �
 onto_cut w None = None
 onto_cut w (Some p) = Some (w ∷ p.0, p.1)
 
--- the words before the first `;`, and those behind it
+-- the words before the first `;`, and those after it
 abbrev pub cut_of : List (List ℕ) → Option (List (List ℕ) × List (List ℕ))
 cut_of [] = None
 cut_of (w ∷ ws) = if is_semi w then Some ([], ws) else onto_cut w (cut_of ws)
@@ -136,7 +136,7 @@ move_made None to = None
 move_made (Some n) None = None
 move_made (Some n) (Some to) = Some (record { next = n; to = to })
 
--- the words for E or F, and those behind them; none where it isn't of the width
+-- the words for E or F, and those after them; none where it isn't of the width
 abbrev pub cut_extra : Bool → List (List ℕ) → Option (List (List ℕ) × List (List ℕ))
 cut_extra false ws = Some ([], ws)
 cut_extra true ws = cut_of ws

@@ -141,7 +141,7 @@ fn read_any(alloc: Global, words: &[&[u8]]) -> Result<Option<Expr>, Memory>
     Ok(only_one(stack))
 }
 
-/// Puts the words of an expression behind `text`, each with a space before it.
+/// Appends the words of an expression to `text`, each with a space before it.
 pub(crate) fn push_expr(text: &mut Vec<u8>, e: &Expr) -> Result<(), Memory>
     ensures { OnOk result (text.new.items ≡ text.old.items ++ behind (formula_words (formula e.now))) }
 {

@@ -68,7 +68,7 @@ fn semi_at(words: &[&[u8]]) -> Option<usize>
     words.iter().position(|w| is_semi(w))
 }
 
-/// The words before the first `;`, and those behind it.
+/// The words before the first `;`, and those after it.
 pub(crate) fn cut_at_semi<'t, 'a>(words: &'t [&'a [u8]]) -> Option<(&'t [&'a [u8]], &'t [&'a [u8]])>
     ensures { let cut = cut_of (texts words.now) in
         MatchOption result (cut ≡ None) (λ p. cut ≡ Some (texts p.0.now, texts p.1.now)) }

@@ -72,7 +72,7 @@ struct Pieces<'t, 'a> {
     r: &'t [&'a [u8]],
 }
 
-/// The words of the expression for E or F, and those behind its `;`; none in a narrow block.
+/// The words of the expression for E or F, and those after its `;`; none in a narrow block.
 fn cut_extra<'t, 'a>(words: &'t [&'a [u8]], wide: bool) -> Option<(&'t [&'a [u8]], &'t [&'a [u8]])>
     ensures { let cut = cut_extra wide (texts words.now) in
         MatchOption result (cut ≡ None) (λ p. cut ≡ Some (texts p.0.now, texts p.1.now)) }

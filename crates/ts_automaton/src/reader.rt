@@ -135,7 +135,7 @@ fn with_words(alloc: Global, prefix: Prefix, words: &[&[u8]]) -> Result<Option<P
     }
 }
 
-/// The same of a line with its LF.
+/// What was read, with one more line, given with its LF; None where it may not come there.
 fn with_line(alloc: Global, prefix: Prefix, text: &[u8]) -> Result<Option<Prefix>, Memory>
     requires { HasFew (prefix_seen prefix) }
     ensures { IfOk result (λ d. option_map prefix_seen d ≡ with_line (prefix_seen prefix) text.now) }

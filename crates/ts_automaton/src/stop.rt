@@ -6,8 +6,8 @@ ghost use Rattle.ts_automaton.specs.declared.stop.AutoStop.TheVariants.{Memory a
 use thiserror::Error;
 use ts_base::Memory;
 
-/// The first line of a text against the grammar of a block, where an end line that is missing is the line behind the
-/// last one; else the first line against the typing; or want of memory. Lines are counted from 1.
+/// The first line of a text against the grammar of a block, where an end line that is missing is the line after the
+/// last one; else the first line against the typing; or lack of memory. Lines are counted from 1.
 #[derive(Clone, Copy, Debug, PartialEq, Eq, Error)]
 pub enum AutoStop {
     #[error("line {0} is against the grammar")]

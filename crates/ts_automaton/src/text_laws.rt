@@ -17,14 +17,14 @@ pub fn words_are_read()
         (formula_of wide ws ≡ Some f ↔ ((ws ≡ formula_words f) × IsTrue (is_expression wide f))) }
 {}
 
-/// A text is read in one way alone, want of memory aside: as the automaton whose block it is, or as refused, for one
+/// A text is read in one way alone, lack of memory aside: as the automaton whose block it is, or as refused, for one
 /// reason at one line.
 pub fn text_has_one_reading()
     ensures { (text : List ℕ) (r s : Result Body AutoStop) →
         Reads text r → Reads text s → r ≢ Err NoMemory → s ≢ Err NoMemory → r ≡ s }
 {}
 
-/// What was written behind either head is read as the same automaton.
+/// What was written after either head is read as the same automaton.
 pub fn written_is_read()
     ensures { (m : Body) (way : TheWay) (r : Result Body AutoStop) → IsTrue (is_automaton m) →
         Reads (head_text way m.wide ++ body_text m) r → r ≢ Err NoMemory → r ≡ Ok m }

@@ -1,4 +1,4 @@
-//! The text of an automaton: one body, the lines of its block behind the head.
+//! The text of an automaton: one body, the lines of its block after the head.
 
 ghost use Rattle.std.specs.Prelude.{◌≡◌, ◌++◌, [], ◌∷◌, ◌+◌, ◌*◌, ◌<◌, ◌≤◌, ◌/◌, ◌%◌, codes, map, length, OnErr, OnOk};
 ghost use Rattle.ts_base.specs.Words.{behind};
@@ -18,7 +18,7 @@ use crate::regs::Regs;
 use crate::state::{Mark, State, Turn};
 use ts_base::{Ext, Memory};
 
-/// Puts the head line of a block of this width behind `text`, which stays as it is after `Memory`.
+/// Appends the head line of a block of this width to `text`, which stays as it is after `Memory`.
 pub fn write_head(way: Way, wide: bool, text: &mut Vec<u8>) -> Result<(), Memory>
     ensures ok { OnOk result (text.new.items ≡ text.old.items ++ head_text way wide) }
     ensures err { OnErr result (text.new.items ≡ text.old.items) }
@@ -32,7 +32,7 @@ pub fn write_head(way: Way, wide: bool, text: &mut Vec<u8>) -> Result<(), Memory
     Ok(())
 }
 
-/// Puts the one body of an automaton behind `text`, which stays as it is after `Memory`: the body is written apart, and
+/// Appends the one body of an automaton to `text`, which stays as it is after `Memory`: the body is written apart, and
 /// `text` grows once, before it changes.
 pub fn write(m: &Automaton, text: &mut Vec<u8>) -> Result<(), Memory>
     ensures ok { OnOk result (text.new.items ≡ text.old.items ++ body_text m.now) }
@@ -44,7 +44,7 @@ pub fn write(m: &Automaton, text: &mut Vec<u8>) -> Result<(), Memory>
     Ok(())
 }
 
-/// Puts the lines of a block but the head behind `text`.
+/// Appends the lines of a block but the head to `text`.
 fn push_body(text: &mut Vec<u8>, parts: &Parts) -> Result<(), Memory>
     requires { length parts.now.states.items ≤ 8 }
     ensures { OnOk result (text.new.items ≡ text.old.items ++ body_text (parts_of parts.now)) }
@@ -57,7 +57,7 @@ fn push_body(text: &mut Vec<u8>, parts: &Parts) -> Result<(), Memory>
     Ok(())
 }
 
-/// Puts the line of a state behind `text`.
+/// Appends the line of a state to `text`.
 fn push_state(text: &mut Vec<u8>, name: u8, held: bool) -> Result<(), Memory>
     ensures { let line = state_words (record { name = name; held = held }) in
         OnOk result (text.new.items ≡ text.old.items ++ words_text line) }
@@ -72,7 +72,7 @@ fn push_state(text: &mut Vec<u8>, name: u8, held: bool) -> Result<(), Memory>
     Ok(())
 }
 
-/// Puts the line of each state behind `text`.
+/// Appends the line of each state to `text`.
 fn push_states(text: &mut Vec<u8>, states: &[State]) -> Result<(), Memory>
     ensures { let lines = map state_words (state_lines (map node_of states.now)) in
         OnOk result (text.new.items ≡ text.old.items ++ lines_text lines) }
@@ -83,7 +83,7 @@ fn push_states(text: &mut Vec<u8>, states: &[State]) -> Result<(), Memory>
     Ok(())
 }
 
-/// Puts the word of a start constant behind `text`, with a space before it.
+/// Appends the word of a start constant to `text`, with a space before it.
 fn push_constant(text: &mut Vec<u8>, e: Ext) -> Result<(), Memory>
     ensures { OnOk result (text.new.items ≡ text.old.items ++ behind (constant_words e)) }
 {
@@ -111,7 +111,7 @@ fn push_extra_constant(text: &mut Vec<u8>, e: Ext, wide: bool) -> Result<(), Mem
     Ok(())
 }
 
-/// Puts the start constants behind `text`.
+/// Appends the start constants to `text`.
 fn push_constants(text: &mut Vec<u8>, start: Regs, wide: bool) -> Result<(), Memory>
     ensures { OnOk result (text.new.items
         ≡ text.old.items ++ behind (each_words constant_words wide (regs_of start))) }
@@ -124,7 +124,7 @@ fn push_constants(text: &mut Vec<u8>, start: Regs, wide: bool) -> Result<(), Mem
     Ok(())
 }
 
-/// Puts the start line behind `text`.
+/// Appends the start line to `text`.
 fn push_start(text: &mut Vec<u8>, start: Regs, wide: bool) -> Result<(), Memory>
     ensures { OnOk result (text.new.items ≡ text.old.items ++ words_text (start_words wide (regs_of start))) }
 {
@@ -141,7 +141,7 @@ fn name_at(states: &[State], k: usize) -> u8
     if k < states.len() { states[k].name } else { 0 }
 }
 
-/// Puts the first words of move `k`, which leads to the state at place `next`, behind `text`.
+/// Puts the first words of move `k`, which leads to the state at place `next`, after `text`.
 fn push_turn(text: &mut Vec<u8>, states: &[State], k: usize, next: u8) -> Result<(), Memory>
     ensures { let words = turn_words (state_lines (map node_of states.now)) k next in
         OnOk result (text.new.items ≡ text.old.items ++ (codes "move" ++ behind words)) }
@@ -155,7 +155,7 @@ fn push_turn(text: &mut Vec<u8>, states: &[State], k: usize, next: u8) -> Result
     Ok(())
 }
 
-/// Puts an expression of a move behind `text`, with the `;` before it.
+/// Appends an expression of a move to `text`, with the `;` before it.
 fn push_behind_semi(text: &mut Vec<u8>, e: &Expr) -> Result<(), Memory>
     ensures { OnOk result (text.new.items ≡ text.old.items ++ behind (behind_semi (formula e.now))) }
 {
@@ -175,7 +175,7 @@ fn push_extra(text: &mut Vec<u8>, e: &Expr, wide: bool) -> Result<(), Memory>
     Ok(())
 }
 
-/// Puts the expressions of a move behind `text`.
+/// Appends the expressions of a move to `text`.
 fn push_expressions(text: &mut Vec<u8>, turn: &Turn, wide: bool) -> Result<(), Memory>
     ensures { OnOk result (text.new.items
         ≡ text.old.items ++ behind (each_words behind_semi wide (move_of turn.now).to)) }
@@ -188,7 +188,7 @@ fn push_expressions(text: &mut Vec<u8>, turn: &Turn, wide: bool) -> Result<(), M
     Ok(())
 }
 
-/// Puts the line of move `k` behind `text`.
+/// Appends the line of move `k` to `text`.
 fn push_move(
     text: &mut Vec<u8>,
     states: &[State],
@@ -205,7 +205,7 @@ fn push_move(
     Ok(())
 }
 
-/// Puts the lines of the three moves of state `q` behind `text`.
+/// Appends the lines of the three moves of state `q` to `text`.
 fn push_moves_of(
     text: &mut Vec<u8>,
     states: &[State],
@@ -224,7 +224,7 @@ fn push_moves_of(
     Ok(())
 }
 
-/// Puts the lines of all moves behind `text`, those of each state in order.
+/// Appends the lines of all moves to `text`, those of each state in order.
 fn push_moves(text: &mut Vec<u8>, states: &[State], wide: bool) -> Result<(), Memory>
     requires { length states.now ≤ 8 }
     ensures { let nodes = map node_of states.now in
@@ -237,7 +237,7 @@ fn push_moves(text: &mut Vec<u8>, states: &[State], wide: bool) -> Result<(), Me
     Ok(())
 }
 
-/// Puts the mark's word behind `text`, with a space before it.
+/// Appends the mark's word to `text`, with a space before it.
 fn push_mark(text: &mut Vec<u8>, mark: Mark) -> Result<(), Memory>
     ensures { OnOk result (text.new.items ≡ text.old.items ++ behind (mark_word mark ∷ [])) }
 {
@@ -249,7 +249,7 @@ fn push_mark(text: &mut Vec<u8>, mark: Mark) -> Result<(), Memory>
     Ok(())
 }
 
-/// Puts the finish line behind `text`.
+/// Appends the finish line to `text`.
 fn push_finish(text: &mut Vec<u8>, finish: &Expr, mark: Mark) -> Result<(), Memory>
     ensures { OnOk result (text.new.items ≡ text.old.items ++ words_text (finish_words (formula finish.now) mark)) }
 {

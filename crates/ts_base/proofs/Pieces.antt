@@ -33,7 +33,7 @@ pub gave_bytes : (limit : ℕ) (bytes : List ℕ) (before after : Option (List �
     GaveAtMost limit before after
 gave_bytes limit bytes before after few e = (length bytes, few, given_after bytes before after e)
 
--- a piece of the rest taken behind the first n bytes
+-- a piece of the rest taken after the first n bytes
 pub taken_further : (n m : ℕ) (text : List ℕ) (first before after : Option (List ℕ)) →
     before ≡ taken_more first (take n text) → after ≡ taken_more before (take m (drop n text)) →
     after ≡ taken_more first (take (n + m) text)
@@ -41,7 +41,7 @@ taken_further n m text first before after e f =
     f ∙ ap (λ taken. taken_more taken (take m (drop n text))) e ∙ taken_more-twice first (take n text) (take m (drop n text))
     ∙ ap (taken_more first) (sym (take-add n m text))
 
--- what fits of a piece behind the bytes kept
+-- what fits of a piece after the bytes kept
 pub kept_in_room : (kept piece : List ℕ) (room : ℕ) → length kept ≤ room →
     kept ++ take (min (room - length kept) (length piece)) piece ≡ take room (kept ++ piece)
 kept_in_room kept piece room within =

@@ -47,11 +47,11 @@ GaveAtMost n before after = (m : ℕ) × (m ≤ n) × (after ≡ left_after m be
 abbrev pub HasMoreThan : ℕ → Option (List ℕ) → Type 0
 HasMoreThan n left = IfSome left (λ bytes. n < length bytes)
 
--- what was taken, with a piece behind it
+-- what was taken, with a piece after it
 abbrev pub taken_more : Option (List ℕ) → List ℕ → Option (List ℕ)
 taken_more None piece = None
 taken_more (Some taken) piece = Some (taken ++ piece)
 
--- a front of the text was taken
+-- a prefix of the text was taken
 abbrev pub Prefix : List ℕ → Option (List ℕ) → Option (List ℕ) → Type 0
 Prefix text before after = (n : ℕ) × (n ≤ length text) × (after ≡ taken_more before (take n text))

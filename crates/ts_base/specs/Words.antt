@@ -15,7 +15,7 @@ abbrev pub onto_line : ℕ → List (List ℕ) → List (List ℕ)
 onto_line b [] = (b ∷ []) ∷ []
 onto_line b (line ∷ lines) = (b ∷ line) ∷ lines
 
--- the lines of a text, each with its LF; bytes behind the last LF are a line without one
+-- the lines of a text, each with its LF; bytes after the last LF are a line without one
 abbrev pub strict_lines : List ℕ → List (List ℕ)
 strict_lines [] = []
 strict_lines (b ∷ bs) = if is_lf b then (b ∷ []) ∷ strict_lines bs else onto_line b (strict_lines bs)

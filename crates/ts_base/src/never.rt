@@ -89,7 +89,7 @@ impl Model for NeverSink {
 }
 
 impl NeverSink {
-    /// Keeps bytes behind those in `room`, and none beyond its capacity.
+    /// Keeps bytes after those in `room`, and none beyond its capacity.
     pub fn new(room: Vec<u8>) -> NeverSink
         ensures { result ≡ record { kept = room.items; most = vec_capacity room; finished = false; finishes = 0 } }
     {

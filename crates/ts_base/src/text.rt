@@ -1,4 +1,4 @@
-//! Numbers written behind a text.
+//! Numbers written after a text.
 
 ghost use Rattle.std.specs.Prelude.{◌≡◌, ◌++◌, OnOk, OnErr};
 ghost use Rattle.std.specs.Fmt.{signed_decimal};
@@ -8,7 +8,7 @@ use crate::error::Memory;
 use crate::ext::Ext;
 use itoa::Buffer;
 
-/// Puts the decimal text of `n` behind `text`, which stays as it is after `Memory`.
+/// Appends the decimal text of `n` to `text`, which stays as it is after `Memory`.
 pub fn push_number(text: &mut Vec<u8>, n: i64) -> Result<(), Memory>
     ensures ok { OnOk result (text.new.items ≡ text.old.items ++ signed_decimal n) }
     ensures err { OnErr result (text.new.items ≡ text.old.items) }
@@ -18,7 +18,7 @@ pub fn push_number(text: &mut Vec<u8>, n: i64) -> Result<(), Memory>
     Ok(())
 }
 
-/// Puts the number, `-inf` or `+inf` behind `text`, which stays as it is after `Memory`.
+/// Appends the number, `-inf` or `+inf` to `text`, which stays as it is after `Memory`.
 pub fn push_ext(text: &mut Vec<u8>, e: Ext) -> Result<(), Memory>
     ensures ok { OnOk result (text.new.items ≡ text.old.items ++ ext_text e) }
     ensures err { OnErr result (text.new.items ≡ text.old.items) }

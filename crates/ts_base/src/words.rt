@@ -7,7 +7,7 @@ ghost use Rattle.std.specs.Prelude.{◌≡◌, ◌<◌, ◌≤◌, ◌∷◌, �
 ghost use Rattle.std.specs.List.{position};
 ghost use Rattle.ts_base.specs.Words.{is_lf, is_space, strict_lines, without_lf, words_of, words_seen, left_of};
 
-/// The first word of a line, and the bytes after the space behind it, where there is one.
+/// The first word of a line, and the bytes after the space after it, where there is one.
 #[derive(Clone, Copy, Debug)]
 pub struct Words<'a> {
     pub first: &'a [u8],

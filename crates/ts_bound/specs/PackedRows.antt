@@ -11,7 +11,7 @@ use Rattle.ts_bound.specs.HullTables.{row_of}
 abbrev pub seen_row : Sides → List Hull → List Hull
 seen_row s row = map (seen_hull s) row
 
--- a packed row is what is seen of that of a cell with these values, behind these cells
+-- a packed row is what is seen of that of a cell with these values, after these cells
 pub record IsPackedRow (n : ℕ) (b : Body) (before : List (List ℤ)) (values : List ℤ)
     (row : List (List (PackedHull n))) : Type 0 where
   pub is_row : IsRow n (length b.states) (length values) row

@@ -9,7 +9,7 @@ lines_text-append [] ys = refl
 lines_text-append (x ∷ xs) ys = ap (λ (t : List ℕ). line_text x ++ t) (lines_text-append xs ys)
     ∙ sym (append_assoc (line_text x) (lines_text xs) (lines_text ys))
 
--- one more part is behind the text; `all` is the text of all parts
+-- one more part is after the text; `all` is the text of all parts
 pub one_more : {A : Type 0} (part : A → List ℕ) (all : List A → List ℕ) → ((x : A) (xs : List A) → all (x ∷ xs) ≡ part x ++ all xs) →
     (xs : List A) (i : ℕ) (d : A) (old new whole : List ℕ) → i < length xs → new ≡ old ++ part (get_or xs i d) →
     old ++ all (drop i xs) ≡ whole → new ++ all (drop (i + 1) xs) ≡ whole

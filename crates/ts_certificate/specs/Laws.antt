@@ -75,7 +75,7 @@ TextIsShort =
     (c : Cert) → IsWithinLimits c →
     length (certificate_text c) ≤ 21 * checked_count c.tree + 5 * open_count c.tree + 4615 * length c.series + 60
 
--- behind each model, with the LF that its last line may lack and the line `%%`, it fits what `verify` reads
+-- after each model, with the LF that its last line may lack and the line `%%`, it fits what `verify` reads
 abbrev pub TextFits : Type 0
 TextFits =
     (c : Cert) (model : ℕ) → IsWithinLimits c → model ≤ most_model_bytes →

@@ -1,4 +1,4 @@
--- Exactly so many words behind the first.
+-- Exactly so many words after the first.
 use Rattle.std.specs.Prelude.{ℕ, List, [], ◌∷◌, Option, Some, None}
 use Rattle.std.specs.Option.{option_map}
 

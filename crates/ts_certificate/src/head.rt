@@ -16,7 +16,7 @@ use std::alloc::Global;
 use ts_base::{Goal, Words, words_of};
 use ts_token::ext_of;
 
-/// The word behind `generate`: how many series are asked for.
+/// The word after `generate`: how many series are asked for.
 fn list_of(rest: Option<&[u8]>) -> Option<Aim>
     ensures { result ≡ list_from (one_of (more_seen rest.entry)) }
 {
@@ -38,14 +38,14 @@ pub(crate) fn aim_of(words: &Words<'_>) -> Option<Aim>
     }
 }
 
-/// The word behind `best`: the objective of the best series.
+/// The word after `best`: the objective of the best series.
 fn best_of(rest: Option<&[u8]>) -> Option<Claim>
     ensures { result ≡ best_from (one_of (more_seen rest.entry)) }
 {
     ext_of(one_word(rest)?).map(Claim::Best)
 }
 
-/// The word behind `budget` where a best series was asked for: the objective of the one that was found, if any.
+/// The word after `budget` where a best series was asked for: the objective of the one that was found, if any.
 fn budget_of(rest: Option<&[u8]>) -> Option<Claim>
     ensures { result ≡ budget_from (one_of (more_seen rest.entry)) }
 {
@@ -72,7 +72,7 @@ fn best_claim_of(words: &Words<'_>) -> Option<Claim>
     }
 }
 
-/// The word behind the claim of a listing: how many series it lists.
+/// The word after the claim of a listing: how many series it lists.
 fn count_from(rest: Option<&[u8]>) -> Option<u32>
     ensures { result ≡ count_from (one_of (more_seen rest.entry)) }
 {
@@ -104,7 +104,7 @@ pub(crate) fn claim_of(aim: Aim, words: &Words<'_>) -> Option<Claim>
     }
 }
 
-/// The numbers behind `series`, until the first word that is none.
+/// The numbers after `series`, until the first word that is none.
 fn values_of(alloc: Global, words: Option<&[u8]>) -> Result<Vec<i64>, LineStop>
     ensures { Gives (λ v. v.items) result (ok_or (values_of (more_seen words.entry)) LineStop.Grammar) }
 {

@@ -33,7 +33,7 @@ pub fn one_certificate()
     ensures { OneCertificate }
 {}
 
-/// Each certificate that a solving command can write fits, behind its model, what `verify` reads.
+/// Each certificate that a solving command can write fits, after its model, what `verify` reads.
 pub fn text_fits()
     ensures short { TextIsShort }
     ensures fits { TextFits }

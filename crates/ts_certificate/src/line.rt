@@ -61,7 +61,7 @@ fn tree_line(words: &Words<'_>) -> Result<Parsed, LineStop>
     }
 }
 
-/// The two numbers behind `end`.
+/// The two numbers after `end`.
 fn end_of(rest: Option<&[u8]>) -> Option<(u64, u64)>
     ensures { result ≡ end_of (more_seen rest.entry) }
 {

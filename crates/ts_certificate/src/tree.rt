@@ -10,7 +10,7 @@ use crate::words::{alone, one_word, three_words, two_words};
 use ts_base::Words;
 use ts_token::is_word;
 
-/// The words behind `split`: a cell, and the greatest value of the lower side.
+/// The words after `split`: a cell, and the greatest value of the lower side.
 fn split_of(rest: Option<&[u8]>) -> Option<TreeLine>
     ensures { result ≡ split_of (more_seen rest.entry) }
 {
@@ -21,7 +21,7 @@ fn split_of(rest: Option<&[u8]>) -> Option<TreeLine>
     Some(TreeLine::Split { k, t })
 }
 
-/// The words behind `drop`: a cell, the value that it loses, and the requirement that refutes it.
+/// The words after `drop`: a cell, the value that it loses, and the requirement that refutes it.
 fn remove_of(rest: Option<&[u8]>) -> Option<TreeLine>
     ensures { result ≡ remove_of (more_seen rest.entry) }
 {
@@ -32,7 +32,7 @@ fn remove_of(rest: Option<&[u8]>) -> Option<TreeLine>
     Some(TreeLine::Remove { k, v, j })
 }
 
-/// The words behind `no`: a requirement, and the cell at which it is refuted.
+/// The words after `no`: a requirement, and the cell at which it is refuted.
 fn no_of(rest: Option<&[u8]>) -> Option<TreeLine>
     ensures { result ≡ no_of (more_seen rest.entry) }
 {
@@ -43,7 +43,7 @@ fn no_of(rest: Option<&[u8]>) -> Option<TreeLine>
     Some(TreeLine::No { j, p })
 }
 
-/// The word behind `worse`: the cell at which the objective is no better.
+/// The word after `worse`: the cell at which the objective is no better.
 fn worse_of(rest: Option<&[u8]>) -> Option<TreeLine>
     ensures { result ≡ worse_of (more_seen rest.entry) }
 {

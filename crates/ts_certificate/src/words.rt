@@ -1,4 +1,4 @@
-//! Exactly so many words behind the first of a line.
+//! Exactly so many words after the first of a line.
 
 ghost use Rattle.std.specs.Prelude.{◌≡◌, None, Some, MatchOption};
 ghost use Rattle.ts_base.specs.Words.{more_seen};

@@ -16,7 +16,7 @@ use crate::state::is_open;
 use std::alloc::Global;
 use ts_base::{Ext, Goal, Memory, push_ext, push_number};
 
-/// Puts a space and a number behind `text`.
+/// Appends a space and a number to `text`.
 fn push_spaced(text: &mut Vec<u8>, n: i64) -> Result<(), Memory>
     ensures { OnOk result (text.new.items ≡ text.old.items ++ (32 ∷ signed_decimal n)) }
 {
@@ -24,14 +24,14 @@ fn push_spaced(text: &mut Vec<u8>, n: i64) -> Result<(), Memory>
     push_number(text, n)
 }
 
-/// Puts a space and a count behind `text`.
+/// Appends a space and a count to `text`.
 fn push_count(text: &mut Vec<u8>, n: u32) -> Result<(), Memory>
     ensures { OnOk result (text.new.items ≡ text.old.items ++ (32 ∷ count_text n)) }
 {
     push_spaced(text, i64::from(n))
 }
 
-/// Puts the line of a word and numbers behind `text`.
+/// Appends the line of a word and numbers to `text`.
 fn push_line(text: &mut Vec<u8>, first: &[u8], numbers: &[i64]) -> Result<(), Memory>
     ensures { OnOk result (text.new.items ≡ text.old.items
         ++ full_line (record { first = first.now; more = map signed_decimal numbers.now })) }
@@ -42,7 +42,7 @@ fn push_line(text: &mut Vec<u8>, first: &[u8], numbers: &[i64]) -> Result<(), Me
     Ok(())
 }
 
-/// Puts a tree line behind `text`.
+/// Appends a tree line to `text`.
 fn push_tree_line(text: &mut Vec<u8>, line: TreeLine) -> Result<(), Memory>
     ensures { OnOk result (text.new.items ≡ text.old.items ++ full_line (tree_words line)) }
 {
@@ -56,7 +56,7 @@ fn push_tree_line(text: &mut Vec<u8>, line: TreeLine) -> Result<(), Memory>
     }
 }
 
-/// Puts the aim line behind `text`.
+/// Appends the aim line to `text`.
 fn push_aim(text: &mut Vec<u8>, aim: Aim) -> Result<(), Memory>
     ensures { OnOk result (text.new.items ≡ text.old.items ++ full_line (aim_words aim)) }
 {
@@ -67,7 +67,7 @@ fn push_aim(text: &mut Vec<u8>, aim: Aim) -> Result<(), Memory>
     }
 }
 
-/// Puts a space and a value behind `text`.
+/// Appends a space and a value to `text`.
 fn push_value(text: &mut Vec<u8>, value: Ext) -> Result<(), Memory>
     ensures { OnOk result (text.new.items ≡ text.old.items ++ (32 ∷ ext_text value)) }
 {
@@ -75,7 +75,7 @@ fn push_value(text: &mut Vec<u8>, value: Ext) -> Result<(), Memory>
     push_ext(text, value)
 }
 
-/// Puts the claim line behind `text`.
+/// Appends the claim line to `text`.
 fn push_claim(text: &mut Vec<u8>, claim: Claim) -> Result<(), Memory>
     ensures { OnOk result (text.new.items ≡ text.old.items ++ full_line (claim_words claim)) }
 {
@@ -107,7 +107,7 @@ fn push_claim(text: &mut Vec<u8>, claim: Claim) -> Result<(), Memory>
     Ok(())
 }
 
-/// Puts numbers behind `text`, each after a space.
+/// Appends numbers to `text`, each after a space.
 fn push_values(text: &mut Vec<u8>, values: &[i64]) -> Result<(), Memory>
     ensures { OnOk result (text.new.items ≡ text.old.items ++ behind (map signed_decimal values.now)) }
 {
@@ -117,7 +117,7 @@ fn push_values(text: &mut Vec<u8>, values: &[i64]) -> Result<(), Memory>
     Ok(())
 }
 
-/// Puts the series lines behind `text`.
+/// Appends the series lines to `text`.
 fn push_all_series(text: &mut Vec<u8>, series: &[Vec<i64>]) -> Result<(), Memory>
     ensures { OnOk result (text.new.items ≡ text.old.items ++ series_text (map (λ v. v.items) series.now)) }
 {
@@ -127,7 +127,7 @@ fn push_all_series(text: &mut Vec<u8>, series: &[Vec<i64>]) -> Result<(), Memory
     Ok(())
 }
 
-/// Puts the tree lines behind `text`.
+/// Appends the tree lines to `text`.
 fn push_tree(text: &mut Vec<u8>, tree: &[TreeLine]) -> Result<(), Memory>
     ensures { OnOk result (text.new.items ≡ text.old.items ++ tree_text tree.now) }
 {
@@ -155,7 +155,7 @@ fn counts_of(tree: &[TreeLine]) -> (usize, usize)
     (checked, unsearched)
 }
 
-/// Puts the end line with the counts of the tree behind `text`.
+/// Appends the end line with the counts of the tree to `text`.
 fn push_end(text: &mut Vec<u8>, tree: &[TreeLine]) -> Result<(), Memory>
     requires { length tree.now < 2 ^ 63 }
     ensures { OnOk result (text.new.items ≡ text.old.items ++ line_text (end_line tree.now)) }

@@ -34,7 +34,7 @@ behind_more bytes part n kind h = record {
   reading = h.reading;
 }
 
--- more bytes behind the model
+-- more bytes after the model
 pub behind_taken : (o p : OpenedModel) (part : List ℕ) → TakesPart o part p → TakesBytes (Behind o) part (Behind p)
 behind_taken (Refused n kind) p part t bytes h = subst (IsBehind (bytes ++ part)) (sym t) (behind_more bytes part n kind h)
 behind_taken (Judging j) (Refused n kind) part t bytes h = absurd t
@@ -118,7 +118,7 @@ pub end_reads : (bytes : List ℕ) (t : ModelText) (read : Result Model ModelSto
     Reads read (model_reading Listed (model_part bytes))
 end_reads bytes t read gives need h = subst (λ n. Reads read (model_reading n (model_part bytes))) need (gives bytes h)
 
--- behind the model memory wasn't wanting
+-- after the model memory wasn't missing
 
 pub opened_calm : (text : List ℕ) (o : OpenedModel) → IsOpened text o → IsCalm o
 opened_calm text (Refused n kind) h = tt

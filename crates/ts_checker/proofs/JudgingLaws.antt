@@ -267,7 +267,7 @@ refused_first bytes j n is h =
       ap (λ (k : ℕ). Some k) (sym held.2),
     ))
 
--- the verdict behind the last line
+-- the verdict after the last line
 
 abbrev pub IsFinal : Checking → Verdict → Type 0
 IsFinal c v =

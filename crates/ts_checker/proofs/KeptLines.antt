@@ -1,4 +1,4 @@
--- Few bytes that are kept of an unfinished line stand for it when bytes come behind both, and are checked as the line.
+-- Few bytes that are kept of an unfinished line stand for it when bytes come after both, and are checked as the line.
 use Rattle.std.proofs.Common.{◌≡◌, ℕ, ◌^◌, ◌<◌, ◌≤◌, inl, inr, Option, Some, None, Ok, Err, List, [], ◌∷◌, ◌++◌, length, refl, sym, ap, subst, ◌∙◌, arith, append_assoc, append-nil}
 use Rattle.std.specs.Prelude.{ℤ, MatchOption, Result}
 use Rattle.std.proofs.lemmas.List.{length-append}
@@ -25,7 +25,7 @@ use Rattle.ts_checker.specs.Checking.{Checking, HasChecked, Takes, TakesBy, Take
 use Rattle.ts_checker.proofs.Verdicts.{state_few}
 use Rattle.ts_checker.specs.Shortened.{AreAlike, Extends, IsKeptOf, ReadAlike, Shortens}
 
--- bytes behind both
+-- bytes after both
 
 alike_on : (a b c : Result CertLine LineStop) → AreAlike a b → AreAlike b c → AreAlike a c
 alike_on a b c (inl p) (inl q) = inl (p.0, q.1)
@@ -178,7 +178,7 @@ last_for old new kept line few none free t =
     by_stop old new kept line t few
     (λ stop. inl (ap (line_if old.reading.state) none, ap (line_if old.reading.state) (none_without line free)))
 
--- behind a line that was refused whatever comes changes nothing
+-- after a line that was refused whatever comes changes nothing
 pub stopped_for : (texts : List (List ℕ)) (c : Checking) (stop : CertStop) (line : List ℕ) → HasChecked texts c → c.reading.stop ≡ Some stop → Takes c line c
 stopped_for texts c stop line h e =
     let kept = stop_kept c.reading stop line e in

@@ -80,7 +80,7 @@ empty_on m s old new None after n l empty (inl k) some = absurd (some k.2)
 empty_on m s old new None after n l empty (inr k) some = k.1
 empty_on m s old new (Some b) after n l empty t some = t.0 ∙ empty (λ e. cc)
 
--- behind a line that was refused
+-- after a line that was refused
 still_stopped : (texts : List (List ℕ)) (text : List ℕ) (old new : Checking) → new.model ≡ old.model → new.failed ≡ old.failed → IsStopped texts old →
     IsStopped (texts ++ text ∷ []) new
 still_stopped texts text old new model failed s = record {

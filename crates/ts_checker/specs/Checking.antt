@@ -12,7 +12,7 @@ use Rattle.ts_filter.specs.RefutedWorseDrop.{Spans}
 use Rattle.ts_spans.specs.Machines.{spans_in}
 
 -- the model, where the reader stands, what the lines so far say and leave, the first of them that breaks its rule, and
--- whether memory was wanting
+-- whether memory was missing
 pub record Checking : Type 0 where
   pub model : ModelParts
   pub reading : Reading

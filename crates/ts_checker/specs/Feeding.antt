@@ -71,7 +71,7 @@ EndsOpened (Judging j) (Model line kind) = ⊥
 EndsOpened (Judging j) (Verdict v) =
     (bytes : List ℕ) → HasRead bytes j → IsShownBy (strict_lines bytes) j.checker.model v
 
--- memory wasn't wanting so far
+-- memory wasn't missing so far
 abbrev pub IsCalm : OpenedModel → Type 0
 IsCalm (Refused line kind) = Unit {0}
 IsCalm (Judging j) = j.checker.wanting ≡ false
@@ -101,7 +101,7 @@ pub record IsBehindRefusal (bytes : List ℕ) (line : ℕ) (kind : ModelKind) : 
   pub ends : EndsModel text front
   pub reading : model_reading Listed text ≡ Err (line, kind)
 
--- the model has ended, and the certificate behind it was taken
+-- the model has ended, and the certificate after it was taken
 pub record IsInCertificate (bytes : List ℕ) (j : AtWork) : Type 0 where
   pub text : List ℕ
   pub front : List ℕ
@@ -140,7 +140,7 @@ pub record Verifying : Type 0 where
 abbrev pub HasRoomFor : Input → ℕ → Type 0
 HasRoomFor input more = (bytes : List ℕ) × HasTaken bytes input × (length bytes + more < too_many)
 
--- unless memory was wanting, so many bytes were taken
+-- unless memory was missing, so many bytes were taken
 abbrev pub IsReady : Bool → ℕ → Input → Type 0
 IsReady wanting count input = wanting ≡ false → (bytes : List ℕ) × HasTaken bytes input × (length bytes ≡ count)
 
@@ -149,7 +149,7 @@ abbrev pub IsUnrefused : Input → Type 0
 IsUnrefused (InModel t) = Unit {0}
 IsUnrefused (Behind opened) = IsGoing opened
 
--- these bytes were fed, and memory was never wanting
+-- these bytes were fed, and memory was never missing
 pub record HasFed (bytes : List ℕ) (v : Verifying) : Type 0 where
   pub calm : v.wanting ≡ false
   pub taken : HasTaken bytes v.input

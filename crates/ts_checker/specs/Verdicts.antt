@@ -27,7 +27,7 @@ pub record IsAgainst (texts : List (List ℕ)) (line : ℕ) : Type 0 where
   pub first : IsFirst Start 1 texts stop
   pub number : line ≡ 1 + length first.before
 
--- the texts are those of lines that may follow one another, and behind the last of them, at this line, `end` is missing
+-- the texts are those of lines that may follow one another, and after the last of them, at this line, `end` is missing
 pub record IsUnended (texts : List (List ℕ)) (line : ℕ) : Type 0 where
   pub lines : List CertLine
   pub are : texts ≡ map line_text lines

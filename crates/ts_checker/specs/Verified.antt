@@ -27,7 +27,7 @@ model_part bytes = (halves_of bytes).model
 abbrev pub rest_part : List ℕ → List ℕ
 rest_part bytes = unwrap_or (halves_of bytes).rest []
 
--- the lines of a certificate behind a model
+-- the lines of a certificate after a model
 abbrev pub certificate_lines : List ℕ → List (List ℕ)
 certificate_lines bytes = strict_lines (rest_part bytes)
 
@@ -36,7 +36,7 @@ pub record IsShownBy (texts : List (List ℕ)) (m : ModelParts) (verdict : Verdi
   pub is : IsVerdict m texts verdict
   pub holds : verdict ≡ Accepted → IsTrueOf m texts
 
--- the model is stated, and this is the verdict on the certificate behind it
+-- the model is stated, and this is the verdict on the certificate after it
 pub record IsJudged (bytes : List ℕ) (verdict : Verdict) : Type 0 where
   pub model : ModelParts
   pub states : model_reading Listed (model_part bytes) ≡ Ok model

@@ -35,7 +35,7 @@ impl NoWords {
 }
 
 /// The words of the command line without the program's name. `Unreadable` comes exactly where the runtime gives an
-/// error in their place that isn't want of memory.
+/// error in their place that isn't lack of memory.
 pub fn words_of(alloc: Global, args: io::Result<Args>) -> Result<Vec<String>, NoWords>
     ensures words { IfOk result (λ words.
         MatchResult args (λ given. words.items ≡ drop 1 (into_iter_items given)) (λ _. ⊥)) }
@@ -49,7 +49,7 @@ pub fn words_of(alloc: Global, args: io::Result<Args>) -> Result<Vec<String>, No
     }
 }
 
-/// The words behind the first, which is the program's name.
+/// The words after the first, which is the program's name.
 fn without_name(alloc: Global, args: Args) -> Result<Vec<String>, NoWords>
     ensures words { IfOk result (λ words. words.items ≡ drop 1 (into_iter_items args)) }
     ensures memory { result ≢ Err NoWords.Unreadable }

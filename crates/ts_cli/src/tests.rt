@@ -16,7 +16,7 @@ struct Row {
     input: &'static [u8],
     /// No call is call 0.
     source: (usize, u64),
-    /// To finish is the call behind the last write.
+    /// To finish is the call after the last write.
     sink: (usize, u64),
     taken: &'static [u8],
     status: Status,
@@ -49,7 +49,7 @@ fn ends_so(alloc: Global, row: &Row, step: usize) -> Result<bool, AllocError> {
     }
 }
 
-/// The line of a reading is written before the next byte is read: where that write fails, all that comes behind the
+/// The line of a reading is written before the next byte is read: where that write fails, all that comes after the
 /// reading's LF is still in the source. Where a read fails, the lines that had their LF are told before.
 #[test]
 fn faults_of_devices(rt: HostRuntime) -> Result<(), AllocError> {
@@ -76,7 +76,7 @@ fn check_of_peak(read: u64, write: u64, taken: &'static [u8], status: Status) ->
 }
 
 /// Five reads give the bytes and the sixth finds the end. Each is told where it fails, and no seventh is made. A write
-/// that fails leaves the bytes before it, the `finish` behind them all, and nothing comes later.
+/// that fails leaves the bytes before it, the `finish` after them all, and nothing comes later.
 #[test]
 fn each_call_fails(rt: HostRuntime) -> Result<(), AllocError> {
     let alloc = rt.alloc();

@@ -11,7 +11,7 @@ use Rattle.ts_model.specs.declared.model.ModelTerm.{ModelTerm}
 use Rattle.ts_model.specs.TermValue.{stated_value}
 use Rattle.ts_model.specs.Views.{stated_of, term_of}
 
--- an element and those behind it
+-- an element and those after it
 pub drop_at : {A : Type 0} (xs : List A) (k : ℕ) (x : A) → slice_get xs k ≡ Some x → drop k xs ≡ x ∷ drop (k + 1) xs
 drop_at [] k x e = grind arith
 drop_at (y ∷ ys) zero x e = let same : y ≡ x = cc in ap (λ z. z ∷ ys) same

@@ -29,7 +29,7 @@ word_before old word text ws all e f =
     ∙ append_assoc old (32 ∷ word) (behind ws ++ (10 ∷ []))
     ∙ ap (λ (t : List ℕ). old ++ (32 ∷ t)) (sym (append_assoc word (behind ws) (10 ∷ [])))
 
--- the first word of a line, with those behind it
+-- the first word of a line, with those after it
 line_begun : (old first text : List ℕ) (ws : List (List ℕ)) (all : List ℕ) → text ≡ old ++ first → all ≡ text ++ (behind ws ++ (10 ∷ [])) →
     all ≡ old ++ full_line (record { first = first; more = ws })
 line_begun old first text ws all e f =

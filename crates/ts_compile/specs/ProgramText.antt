@@ -66,7 +66,7 @@ glue_text p =
     words_text (glue_words p.table)
     ++ (lines_text (map (join_words p.forward p.reverse) p.table.joins) ++ codes "end\n")
 
--- what stands behind the forward block
+-- what stands after the forward block
 abbrev pub reverse_text : Option Pair → List ℕ
 reverse_text None = codes "no reverse\n"
 reverse_text (Some p) = head_text Reverse p.reverse.wide ++ (body_text p.reverse ++ glue_text p)

@@ -1,5 +1,5 @@
 -- The seed of each pattern before `validate`: with the pattern's expression, its trim before an occurrence and the
--- seed's own plan no refusal can come, so that the one error is want of memory.
+-- seed's own plan no refusal can come, so that the one error is lack of memory.
 use Rattle.std.specs.Prelude.{◌≡◌}
 use Rattle.ts_regex.specs.Shape.{shape_of}
 use Rattle.ts_transducer.specs.Rows.{rows_of}

@@ -1,4 +1,4 @@
-//! What stands in the text of a program behind a forward block.
+//! What stands in the text of a program after a forward block.
 
 ghost use Rattle.std.specs.Prelude.{◌≡◌, ◌<◌, ◌++◌, length, map, Some, All, IsTrue, OnOk};
 ghost use Rattle.ts_automaton.specs.AutomatonText.{lines_text, name_at, state_lines, words_text};
@@ -12,7 +12,7 @@ use ts_automaton::{Automaton, Way, write, write_head};
 use ts_base::{Join, Memory};
 use ts_glue::{CellUnit, FoldOp, GlueTable, Machine};
 
-/// Puts the reverse block of a machine and its glue part behind `text`, or the line that it can't be split.
+/// Appends the reverse block of a machine and its glue part to `text`, or the line that it can't be split.
 pub(crate) fn push_reverse(text: &mut Vec<u8>, machine: &Machine) -> Result<(), Memory>
     ensures { OnOk result (text.new.items ≡ text.old.items ++ reverse_text (pair_of machine.now)) }
 {
@@ -23,7 +23,7 @@ pub(crate) fn push_reverse(text: &mut Vec<u8>, machine: &Machine) -> Result<(), 
     }
 }
 
-/// Puts the reverse block and the glue part behind `text`.
+/// Appends the reverse block and the glue part to `text`.
 fn push_glued(
     text: &mut Vec<u8>,
     forward: &Automaton,
@@ -42,7 +42,7 @@ fn push_glued(
     Ok(())
 }
 
-/// Puts the first line of a glue part behind `text`.
+/// Appends the first line of a glue part to `text`.
 fn push_glue(text: &mut Vec<u8>, table: &GlueTable) -> Result<(), Memory>
     ensures { OnOk result (text.new.items ≡ text.old.items ++ words_text (glue_words (table_view table.now))) }
 {
@@ -54,7 +54,7 @@ fn push_glue(text: &mut Vec<u8>, table: &GlueTable) -> Result<(), Memory>
     Ok(())
 }
 
-/// Puts the line of each pair of states behind `text`.
+/// Appends the line of each pair of states to `text`.
 fn push_joins(
     text: &mut Vec<u8>,
     forward: &Automaton,
@@ -71,7 +71,7 @@ fn push_joins(
     Ok(())
 }
 
-/// Puts the line of a pair of states behind `text`.
+/// Appends the line of a pair of states to `text`.
 fn push_join(
     text: &mut Vec<u8>,
     forward: &Automaton,

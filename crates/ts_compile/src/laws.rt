@@ -48,7 +48,7 @@ pub fn glued_value()
 {}
 
 /// `validate` refuses no seed: given a seed, its own plan and the pattern's expression and trim, it answers the
-/// transducer or want of memory. So a machine may be made of a seed that isn't validated again.
+/// transducer or lack of memory. So a machine may be made of a seed that isn't validated again.
 pub fn seeds_are_validated()
     ensures { SeedsAreValidated }
 {}

@@ -34,7 +34,7 @@ pub fn write_program(alloc: Global, m: &Model, p: &Program) -> Result<Vec<u8>, M
     Ok(text)
 }
 
-/// Puts the part of one term behind `text`.
+/// Appends the part of one term to `text`.
 fn push_part(
     text: &mut Vec<u8>,
     name: &String,
@@ -52,7 +52,7 @@ fn push_part(
     Ok(())
 }
 
-/// Puts the line of a term behind `text`.
+/// Appends the line of a term to `text`.
 fn push_term(text: &mut Vec<u8>, name: &String, t: &ModelTerm) -> Result<(), Memory>
     ensures { OnOk result
         (text.new.items ≡ text.old.items ++ words_text (term_words (string_bytes name.now) t.now)) }
@@ -67,7 +67,7 @@ fn push_term(text: &mut Vec<u8>, name: &String, t: &ModelTerm) -> Result<(), Mem
     Ok(())
 }
 
-/// Puts the tail of a term that looks at some of the cells alone behind `text`.
+/// Appends the tail of a term that looks at some of the cells alone to `text`.
 fn push_window(text: &mut Vec<u8>, window: Option<Range>) -> Result<(), Memory>
     ensures { OnOk result (text.new.items ≡ text.old.items ++ behind (window_words window)) }
 {
@@ -82,7 +82,7 @@ fn push_window(text: &mut Vec<u8>, window: Option<Range>) -> Result<(), Memory>
     }
 }
 
-/// Puts the cells of a range behind `text`.
+/// Appends the cells of a range to `text`.
 fn push_range(text: &mut Vec<u8>, range: Range) -> Result<(), Memory>
     ensures { OnOk result (text.new.items ≡ text.old.items ++ range_word range) }
 {
@@ -92,7 +92,7 @@ fn push_range(text: &mut Vec<u8>, range: Range) -> Result<(), Memory>
     Ok(())
 }
 
-/// Puts the number of a cell behind `text`.
+/// Appends the number of a cell to `text`.
 fn push_cell(text: &mut Vec<u8>, cell: u32) -> Result<(), Memory>
     ensures ok { OnOk result (text.new.items ≡ text.old.items ++ decimal cell) }
     ensures err { OnErr result (text.new.items ≡ text.old.items) }

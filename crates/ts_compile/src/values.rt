@@ -35,7 +35,7 @@ pub(crate) fn value_over(alloc: Global, t: &ModelTerm, series: &[i64]) -> Result
     value(alloc, &t.term, looked_at(t.window, series))
 }
 
-/// The same where the signature of the whole series is at hand, which serves all terms that look at all cells.
+/// The value of a term, by the signature of the whole series, which serves all terms that look at all cells.
 pub(crate) fn value_by(
     alloc: Global,
     t: &ModelTerm,

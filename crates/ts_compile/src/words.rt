@@ -4,7 +4,7 @@ ghost use Rattle.std.specs.Prelude.{◌≡◌, ◌∷◌, ◌++◌, OnOk};
 
 use ts_base::Memory;
 
-/// Puts a space and a word behind `text`.
+/// Appends a space and a word to `text`.
 pub(crate) fn push_word(text: &mut Vec<u8>, word: &[u8]) -> Result<(), Memory>
     ensures { OnOk result (text.new.items ≡ text.old.items ++ (32 ∷ word.now)) }
 {

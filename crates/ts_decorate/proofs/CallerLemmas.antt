@@ -42,7 +42,7 @@ letters x [] = refl
 letters x (y ∷ ys) = ap suc (letters y ys)
 
 module _ (rows : List Row) (typed : is_typed rows ≡ true) (few : length rows ≤ 8) (a : ℕ) (g : Aggregator) (f : Feature) where
-  -- the registers behind the series, before the mark: no sum is held, so exact operators give the same
+  -- the registers after the series, before the mark: no sum is held, so exact operators give the same
   pub total_exact : (x : ℤ) (ys : List ℤ) → length ys ≤ 99999 → IsCellValue x → AreCellValues ys →
       let total = total_of (held_at_limit g f) (after_from (decorated_body rows a g f) (table_start (exact g f)) x ys).regs in
       (total ≡ total_of (exact g f) (table_after (exact g f) (cell_value f) a rows (table_start (exact g f)) x ys).regs) × (size_of total ≤ limit)

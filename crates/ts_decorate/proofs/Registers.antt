@@ -1,5 +1,5 @@
 -- What the registers hold while a table is run with exact operators: C the cells of the range that is held, D the cells
--- from the start that is kept, or behind the held range, R the ranges that were emitted; E as C, and F as D.
+-- from the start that is kept, or after the held range, R the ranges that were emitted; E as C, and F as D.
 use Rattle.std.specs.Prelude.{◌≡◌, ℕ, zero, suc, ◌+◌, ◌-◌, ◌<◌, ◌≤◌, List, [], ◌∷◌, ◌++◌, length, get_or, fold, map, Option, None, Some, refl}
 use Rattle.std.specs.List.{AllByRecursion}
 use Rattle.std.specs.Option.{option_to_list}

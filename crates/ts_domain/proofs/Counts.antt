@@ -25,7 +25,7 @@ unfolding counts_from
 length-counts n [] = refl
 length-counts n (r ∷ rs) = ap suc (length-counts (n + length (values_between r.low r.high)) rs)
 
--- the count of the next range, and what comes behind the last one
+-- the count of the next range, and what comes after the last one
 pub next_count : (n : ℕ) (rs : List Interval) (k : ℕ) (e : Interval) → suc k < length rs →
     get_or (counts_from n rs) (suc k) 0 ≡ get_or (counts_from n rs) k 0 + length (values_between (get_or rs k e).low (get_or rs k e).high)
 unfolding counts_from

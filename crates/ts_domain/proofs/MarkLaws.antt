@@ -24,7 +24,7 @@ unfolding MarksFrom
 marks_back f [] ys h = h
 marks_back f (x ∷ xs) ys h = marks_earlier f (x.value +ℤ pos 1) ys (omega (arith, ints, h.0)) (marks_back (x.value +ℤ pos 1) xs ys h.2)
 
--- each is below the ones behind it
+-- each is below the ones after it
 pub all_before : (f : ℤ) (xs : List Mark) (m : Mark) (ys : List Mark) → MarksFrom f (xs ++ m ∷ ys) → AllByRecursion (λ x. x.value <ℤ m.value) xs
 unfolding MarksFrom
 all_before f [] m ys h = tt

@@ -155,7 +155,7 @@ get_second [] ys i k r e h = let same : i ≡ k = omega (arith, e) in ap (slice_
 get_second (x ∷ xs) ys zero k r e h = absurd (omega (arith, e))
 get_second (x ∷ xs) ys (suc i) k r e h = get_second xs ys i k r (omega (arith, e)) h
 
--- the numbers above t about a mark: those before it, its own, and those behind it
+-- the numbers above t about a mark: those before it, its own, and those after it
 pub record About (all : List ℤ) (t : ℤ) (xs : List Mark) (m : Mark) (ys : List Mark) : Type 0 where
   pub before : List ℤ
   pub rest : List ℤ
@@ -244,7 +244,7 @@ between_counts t u all lt =
     upper : (v : ℤ) → int_le v (u -ℤ pos 1) ≡ int_lt v u
     upper v = grind (arith, ints)
 
--- with no mark: the numbers above t stand behind those up to t
+-- with no mark: the numbers above t stand after those up to t
 up_and_above : (t : ℤ) (all : List ℤ) → IsRising all → all ≡ values_up_to t all ++ values_above t all
 up_and_above t all rise =
     halves (t +ℤ pos 1) all rise ∙ ap (λ l. l ++ filter (λ v. int_le (t +ℤ pos 1) v) all) (filter_alike (λ v. int_lt v (t +ℤ pos 1)) (λ v. int_le v t) all

@@ -10,7 +10,7 @@ use Rattle.ts_domain.specs.Values.{to_natural, values_between, values_of, Ranges
 use Rattle.ts_domain.proofs.Runs.{natural_is, length-between, get_or-run}
 use Rattle.ts_domain.proofs.Ranges.{few_values}
 
--- the range at a place, and those behind it
+-- the range at a place, and those after it
 pub off : (rs : List Interval) (i : ℕ) (d : Interval) → i < length rs → drop i rs ≡ get_or rs i d ∷ drop (i + 1) rs
 off rs i d h = let e : suc i ≡ i + 1 = omega arith in drop-cons rs i d h ∙ ap (λ n. get_or rs i d ∷ drop n rs) e
 

@@ -75,7 +75,7 @@ more_behind self n d d₁ d₂ d₃ t a b c o e e₁ e₂ e₃ fits test ea eb e
     (summed_marks n.before n.mark d₂.mark (up_to t n.behind) a b c rising (ap (λ d. d.mark) e₂) (ea ∙ ap (λ d. gain d.before) e₁) eb
     (ec ∙ ap (λ x. gain (up_to x d₃.behind)) t_is ∙ ap (λ d. gain (up_to t d.behind)) e₃))
 
--- a number stands behind those below it
+-- a number stands after those below it
 pub place_by_count : (xs : List ℤ) (v : ℤ) (n : ℕ) → IsRising xs → Contains xs v → suc n ≡ length (values_up_to v xs) → slice_get xs n ≡ Some v
 unfolding IsRising
 place_by_count [] v n rise has e = absurd (nothing_in v has)

@@ -1,4 +1,4 @@
--- Where a number lies among ranges that stand apart: behind those that end below it, in the last one that begins at it or below.
+-- Where a number lies among ranges that stand apart: after those that end below it, in the last one that begins at it or below.
 use Rattle.std.proofs.Common.{◌≡◌, ℕ, zero, suc, ◌-◌, ◌<◌, ◌≤◌, ℤ, pos, negsuc, neg_ℤ, ◌+ℤ◌, ◌≤ℤ◌, ◌<ℤ◌, inl, inr, ◌↔◌, Bool, true, false, cond, List, [], ◌∷◌, length, get_or}
 use Rattle.std.proofs.Common.{IsTrue, nat_lt, refl, sym, ap, ◌∙◌, subst, arith}
 use Rattle.std.proofs.lemmas.Int.{ints, to_z-of_z}

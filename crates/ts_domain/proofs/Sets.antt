@@ -101,7 +101,7 @@ pub all_append : {A : Type 0} (P : A → Type 0) (xs ys : List A) → AllByRecur
 all_append P [] ys a b = b
 all_append P (x ∷ xs) ys a b = (a.0, all_append P xs ys a.1 b)
 
--- one rising list behind another one
+-- one rising list after another one
 pub rising_append : (xs ys : List ℤ) (m : ℤ) → IsRising xs → IsRising ys → AllByRecursion (λ v. v ≤ℤ m) xs → AllByRecursion (λ v. m <ℤ v) ys →
     IsRising (xs ++ ys)
 unfolding IsRising

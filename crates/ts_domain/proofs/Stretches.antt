@@ -61,7 +61,7 @@ stand_at xs i v (suc n) rise at all =
     stand_at xs (suc i) (v +ℤ pos 1) n rise (next_at xs i v rise at (all (v +ℤ pos 1) (omega (arith, ints)) (omega (arith, ints))))
     (λ w from to. all w (omega (arith, ints, from)) (omega (arith, ints, to))) ∙ ap (λ z. Some z) value
 
--- numbers without a gap stand one behind the other
+-- numbers without a gap stand one after the other
 pub stands : (xs : List ℤ) (i : ℕ) (v last : ℤ) → IsRising xs → slice_get xs i ≡ Some v → ((w : ℤ) → v ≤ℤ w → w ≤ℤ last → Contains xs w) → StandFrom xs i v last
 stands xs i v last rise at all w from to =
     let k = natural_is (w -ℤ v) (omega (arith, ints, from)) in

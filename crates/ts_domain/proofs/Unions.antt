@@ -193,7 +193,7 @@ unfolding RangesFrom
 last_grown f [] l m a same ordered within = (omega (arith, ints, a.0, same), ordered, within, tt)
 last_grown f (r ∷ rs) l m a same ordered within = (a.0, a.1, a.2, last_grown (r.high +ℤ pos 2) rs l m a.3 same ordered within)
 
--- one more range behind a gap
+-- one more range after a gap
 pub one_more_range : (f : ℤ) (rs : List Interval) (l m : Interval) → RangesFrom f (rs ++ l ∷ []) → (l.high +ℤ pos 2) ≤ℤ m.low → m.low ≤ℤ m.high →
     m.high ≤ℤ pos 1000000 → RangesFrom f ((rs ++ l ∷ []) ++ m ∷ [])
 unfolding RangesFrom

@@ -1,4 +1,4 @@
--- The marks of a tree in order: those before its topmost one, that one, and those behind it.
+-- The marks of a tree in order: those before its topmost one, that one, and those after it.
 use Rattle.std.specs.Prelude.{◌≡◌, neg_ℤ, List, [], ◌∷◌, ◌++◌}
 use Rattle.ts_base.specs.Limits.{greatest_value}
 use Rattle.ts_domain.specs.declared.marks.Mark.{Mark}

@@ -45,7 +45,7 @@ pub record IsRange (values : List ℤ) (r : Interval) : Type 0 where
   pub ordered : r.low ≤ℤ r.high
   pub to : r.high ≤ℤ greatest_value
 
--- the numbers from `next` to `last` stand one behind the other from a place on
+-- the numbers from `next` to `last` stand one after the other from a place on
 abbrev pub StandFrom : List ℤ → ℕ → ℤ → ℤ → Type 0
 StandFrom values place next last =
     (w : ℤ) → next ≤ℤ w → w ≤ℤ last → slice_get values (place + to_natural (w -ℤ next)) ≡ Some w

@@ -4,7 +4,7 @@
 //! of its numbers. A [`Boxed`] has one domain per cell and a trail of earlier domains: to the layer above it is the
 //! list of its boxes, the present one last.
 //! Each change leaves exactly the named values of one cell and adds a box, and `undo` goes back to any earlier box
-//! without memory. After want of memory the value is as it was.
+//! without memory. After `Memory` the value is as it was.
 //!
 //! A domain is made of sorted ranges, which never change, of one piece of them, and of marks: it has what of the
 //! ranges lies in the piece, and at a marked number it is the other way round. Copies and smaller sets share the

@@ -38,7 +38,7 @@ enum Root {
     Full(Box<Node>),
 }
 
-/// A mark, those before it and those behind it, and how many numbers the set has more by all of them.
+/// A mark, those before it and those after it, and how many numbers the set has more by all of them.
 #[cycle(marks)]
 #[derive(Drop)]
 pub(crate) struct Node {
@@ -48,7 +48,7 @@ pub(crate) struct Node {
     behind: Marks,
 }
 
-/// Marks cut at a number: those before it, the one at it, and those behind it.
+/// Marks cut at a number: those before it, the one at it, and those after it.
 #[derive(Drop)]
 struct Cut {
     before: Marks,
@@ -101,7 +101,7 @@ impl Node {
         Ok(Box::new(alloc, node)?)
     }
 
-    /// The marks before its own, and those behind it; both are taken out.
+    /// The marks before its own, and those after it; both are taken out.
     fn take_sides(&mut self) -> (Marks, Marks)
         ensures before { result.0 ≡ self.old.before }
         ensures behind { result.1 ≡ self.old.behind }
@@ -141,7 +141,7 @@ impl Marks {
 }
 
 impl Marks {
-    /// The marks before a number, the one at it, and those behind it.
+    /// The marks before a number, the one at it, and those after it.
     fn split(self, v: i64) -> Cut
         ensures all { self ≡ result.before ++ result.at ++ result.behind }
         ensures before { AllByRecursion (λ m. m.value <ℤ v) result.before }
@@ -262,7 +262,7 @@ fn joined_at(mut node: Box<Node>, before: Marks, behind: Marks) -> Marks
     }
 }
 
-/// The first marks, and the others behind them.
+/// The first marks, and the others after them.
 fn joined(before: Marks, behind: Marks) -> Marks
     requires { MarksFrom (neg_ℤ greatest_value) (before ++ behind) }
     ensures { result ≡ before ++ behind }

@@ -114,7 +114,7 @@ turned_front n last b later e f same =
     ap (λ m. take (m - last) (reverse later)) (sym f) ∙ sym (reverse_drop last later) ∙ ap reverse same ∙ reverse_drop last b
     ∙ ap (λ m. take (m - last) (reverse b)) e
 
--- the row that comes behind
+-- the row that comes after
 
 pub first_behind : (a : Sight) (cells : Box) (rows : Rows) (row : List Hull) (values : List ℤ) → length rows ≡ 0 → length rows < length cells →
     values ≡ get_or cells (length rows) [] → row ≡ seen_row a.ends (row_of a.body [] values) → row ≡ get_or (rows_seen a cells) (length rows) []

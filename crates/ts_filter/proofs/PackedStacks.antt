@@ -94,7 +94,7 @@ packed_row a p before values row is states told =
       };
     }
 
--- the row that comes behind
+-- the row that comes after
 
 turned_more : (cells : Box) (i : ℕ) → i < length cells → reverse (take (suc i) cells) ≡ get_or cells i [] ∷ reverse (take i cells)
 turned_more cells i lt =

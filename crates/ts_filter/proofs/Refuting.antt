@@ -138,7 +138,7 @@ only_there rs term first end d e behind last r there of_term =
     (λ from. let same : first ≡ i = omega (arith, from, to, last) in
     sym (ap (λ j. get_or rs j d) same ∙ get_or_from_slice_get rs i r d is)) (cases_lt i first)
 
--- the requirements of the term stand before the place behind the last one
+-- the requirements of the term stand before the place after the last one
 
 pub none_from_end : (rs : List Require) (term : ℕ) → NoneFrom rs term (length rs)
 none_from_end rs term i r e same = slice_get_within rs i r e

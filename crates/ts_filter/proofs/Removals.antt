@@ -33,7 +33,7 @@ pub first_same : (P Q : Removal → Type 0) (x : Option Removal) → ((r : Remov
 first_same P Q None f g h = λ t q. h t (g t q)
 first_same P Q (Some r) f g h = (f r h.0, λ t q. h.1 t (g t q))
 
--- those of Q behind the first of P needn't be known
+-- those of Q after the first of P needn't be known
 
 module _ (P Q : Removal → Type 0) (n : ℕ) (inside : (t : Removal) → Q t → t.cell ≤ n) where
   wider : (a : Removal) (z : Option Removal) → P a → IsFirstOf (λ r. P r ⊎ (Q r × (r.cell ≤ a.cell))) z → IsFirstOf (λ r. P r ⊎ Q r) z

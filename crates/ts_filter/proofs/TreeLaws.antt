@@ -85,7 +85,7 @@ module _ (m : ModelParts) (s : Spans) (h : Head) where
   steps_more (l ∷ ls) more told (b ∷ w) left end after last f g =
       (f.0, steps_more ls more (told_by l told) (made_by l b ++ w) left end after last f.1 g)
 
-  -- each box, with those behind it counted and its own values, is at most so much
+  -- each box, with those after it counted and its own values, is at most so much
   abbrev Few : ℕ → List Box → Type 0
   Few top [] = Unit {0}
   Few top (b ∷ w) = (length (b ∷ w) + total_of b ≤ top) × Few top w

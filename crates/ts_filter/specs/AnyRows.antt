@@ -86,7 +86,7 @@ row_without from to (Upper row) = Upper (columns_without from to row)
 row_without from to (Lower row) = Lower (columns_without from to row)
 row_without from to (Wide row) = Wide (columns_without from to row)
 
--- the row shows what is seen of the hulls of a cell with these values, behind these cells
+-- the row shows what is seen of the hulls of a cell with these values, after these cells
 pub record IsRowOf (a : Body) (before : List (List ℤ)) (values : List ℤ) (row : AnyRow) : Type 0 where
   pub width : a.wide ≡ has_wide (lanes_of row)
   pub packed : IsPackedRow (lanes_of row) a before values (columns row)

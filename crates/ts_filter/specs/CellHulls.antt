@@ -31,7 +31,7 @@ abbrev pub Serves : AtCell → Question → Type 0
 Serves t asked =
     IsServed t.ends t.machine.forward.mark (count_looked t.machine.window (length t.cells)) asked
 
--- the machine has hulls at cell k: it looks at that cell, and where it can't be split, at none behind it
+-- the machine has hulls at cell k: it looks at that cell, and where it can't be split, at none after it
 pub record HasHulls (a : Automata) (k : ℕ) (b : Box) : Type 0 where
   pub looks : LooksIn a b
   pub from : first_looked a.window ≤ k

@@ -12,7 +12,7 @@ use Rattle.ts_model.specs.FirstBest.{is_better}
 abbrev pub end_with : Automata → Goal → ℕ → Box → ℤ → Ext
 end_with a goal k b v = best_end goal (term_span a k (only k v b))
 
--- the same, told by the whole box
+-- the best number that the span of the value v at cell k leaves open, by the rows of the whole box
 abbrev pub end_in : Automata → Goal → ℕ → Box → ℤ → Ext
 end_in a goal k b v = best_end goal (value_span a k b v)
 
@@ -20,7 +20,7 @@ end_in a goal k b v = best_end goal (value_span a k b v)
 abbrev pub IsPreferred : Goal → (ℤ → Ext) → ℤ → ℤ → Type 0
 IsPreferred goal end v u = (is_better goal (end v) (end u) ≡ true) ⊎ ((end v ≡ end u) × (v ≤ℤ u))
 
--- the same, by the ends of a machine that can be split, else by the values alone
+-- v is kept rather than u: by their ends if the machine can be split, else the lesser value
 abbrev pub IsKeptOver : Option Pair → Goal → (ℤ → Ext) → ℤ → ℤ → Type 0
 IsKeptOver None goal end v u = v ≤ℤ u
 IsKeptOver (Some p) goal end v u = IsPreferred goal end v u

@@ -113,7 +113,7 @@ KnownWhereNone requirements term old new =
     (b : Box) → LooksIn old.machine b → IsFirstOf (IsTermDrop requirements term old.machine b) None → AreKnown b old →
     StillKnown b old new
 
--- two lists of n cells that differ in those behind the first `first`, up to the first `last`, alone
+-- two lists of n cells that differ in those after the first `first`, up to the first `last`, alone
 pub record DifferFrom (first last n : ℕ) (cells later : Box) : Type 0 where
   pub count : length cells ≡ n
   pub count_later : length later ≡ n

@@ -23,7 +23,7 @@ pub record IsRefuting (requirements : List Require) (term : ℕ) (s : Span) (j :
 abbrev pub RefutesSome : List Require → ℕ → Span → Type 0
 RefutesSome requirements term s = (j : ℕ) × IsRefuting requirements term s j
 
--- no requirement of the term stands at this place, counted from 0, or behind it
+-- no requirement of the term stands at this place, counted from 0, or after it
 abbrev pub NoneFrom : List Require → ℕ → ℕ → Type 0
 NoneFrom requirements term end =
     (i : ℕ) (r : Require) → slice_get requirements i ≡ Some r → r.term ≡ term → i < end

@@ -28,7 +28,7 @@ told_by (Worse p) told = told
 told_by Yes told = told + 1
 told_by Unsearched told = told
 
--- the same after the tree
+-- the number of `yes` lines after the tree
 abbrev pub told_after : Tree → ℕ → ℕ
 told_after (Leaf l) told = told_by l told
 told_after (Drop k v j t) told = told_after t told

@@ -24,7 +24,7 @@
 //! tables.refuted(alloc, &requirement, n, &cells)?;           // asks for forward rows alone, since cell n is the last
 //! cells.remove(k, v)?;
 //! tables.bring(alloc, &cells)?;                              // forgets what the change reached
-//! tables.first_cut(alloc, term, goal, &cells, bar)?          // makes anew what it needs of that
+//! tables.first_cut(alloc, term, goal, &cells, bar)?          // rebuilds what it needs of that
 //! ```
 #![tactic(auto)]
 

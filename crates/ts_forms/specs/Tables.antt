@@ -46,11 +46,11 @@ pub record IsTable (f : Forms) : Type 0 where
   pub known : (i : ℕ) (k : Known) → slice_get f.known.items i ≡ Some k → IsKnown (shapes f) (form_at (shapes f) i) k
   pub once : AreDifferent (shapes f)
 
--- the old expressions keep their numbers, and more may have come behind them
+-- the old expressions keep their numbers, and more may have come after them
 abbrev pub Grows : List Shape → List Shape → Type 0
 Grows old new = (more : List Shape) × (new ≡ old ++ more)
 
--- what is left behind is a table that has grown, in which j is the number of r
+-- the table that is left has grown, and j is the number of r in it
 pub record IsPut (old new : Forms) (r : Shape) (j : ℕ) : Type 0 where
   pub table : IsTable new
   pub grows : Grows (shapes old) (shapes new)

@@ -11,7 +11,7 @@ use indexmap::IndexSet;
 use std::alloc::Global;
 use ts_base::Memory;
 
-/// Expressions, no two of them the same, each behind its parts; their places by their nodes; and what is known of each.
+/// Expressions, no two of them the same, each after its parts; their places by their nodes; and what is known of each.
 #[derive(Drop)]
 pub struct Forms {
     pub nodes: Vec<Node>,

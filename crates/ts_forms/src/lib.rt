@@ -1,4 +1,4 @@
-//! Expressions by numbers: a table of nodes in which each expression that comes up stands once, behind its parts.
+//! Expressions by numbers: a table of nodes in which each expression that comes up stands once, after its parts.
 //!
 //! What a letter leaves of an expression, its normal form and which words it has are kept beside it, so that each is
 //! worked out once, whatever expressions it is a part of. Two expressions are the same where their numbers are, and of

@@ -12,7 +12,7 @@ use ts_base::{Letter, Memory};
 use ts_regex::{Regex, alt, cat, star};
 
 impl Forms {
-    /// The number of the expression that a tree is. Where it wasn't there, it is added behind its parts.
+    /// The number of the expression that a tree is. Where it wasn't there, it is added after its parts.
     pub fn add(&mut self, r: &Regex) -> Result<usize, Memory>
         requires { IsTable self.old }
         ensures { IfOk result (λ k. IsPut self.old self.new (shape_of r.now) k) }

@@ -28,7 +28,7 @@ rules_follow m s h told b (Worse p) i f = tt
 rules_follow m s h told b Yes i f = tt
 rules_follow m s h told b Unsearched i f = tt
 
--- each box, with those behind it counted and its own values, is at most so much
+-- each box, with those after it counted and its own values, is at most so much
 abbrev Few : ℕ → List Box → Type 0
 Few top [] = Unit {0}
 Few top (b ∷ w) = (length (b ∷ w) + total_of b ≤ top) × Few top w

@@ -95,7 +95,7 @@ impl Frontier {
         &self.boxed
     }
 
-    /// The present box is replaced by its lower side, the values of cell `k` up to `t`; behind it waits its upper side.
+    /// The present box is replaced by its lower side, the values of cell `k` up to `t`; after it waits its upper side.
     /// Each side has to have a value. After `Memory` nothing has changed.
     pub fn split(&mut self, k: u32, t: i64) -> Result<(), Memory>
         requires ready { IsTrue self.old.ready }
@@ -129,7 +129,7 @@ impl Frontier {
         Ok(())
     }
 
-    /// The present box is done, and the boxes behind it wait. This takes no memory.
+    /// The present box is done, and the boxes after it wait. This takes no memory.
     pub fn close(&mut self)
         requires { IsTrue self.old.ready }
         ensures { self.new ≡ after_close self.old }

@@ -14,7 +14,7 @@
 //! [`follow`] does to them what a line of a tree says. A split finds an end of one cell's set by halving and copies the
 //! set's marks, or makes its ranges anew where it has lost more than 128 numbers by marks; a removal sets a mark; an
 //! advance costs what a split does, and by the changes since its box was split. None costs by the number of cells.
-//! After want of memory nothing has changed.
+//! After `Memory` nothing has changed.
 //!
 //! However many lines are followed, few boxes wait: by the law `few_wait` at most one more than the values of all cells
 //! of the first box, less its cells. [`first_halving`] says where a box is split, as does [`halving_from`], where it is

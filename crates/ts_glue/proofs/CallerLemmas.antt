@@ -1,5 +1,5 @@
 -- For crates above: when two operators are the same; what a machine keeps; the glued value where a series is cut into the cells before one, that
--- one, and those behind it; the law Local by such cuts.
+-- one, and those after it; the law Local by such cuts.
 use Rattle.std.proofs.Common.{◌≡◌, ◌≤◌, ◌<◌, ℕ, zero, suc, ◌+◌, ◌-◌, ℤ, pos, List, [], ◌∷◌, ◌++◌, length, take, drop, reverse, get_or, refl, sym, ◌∙◌, ap, subst, arith}
 use Rattle.std.specs.Prelude.{IsTrue, Option, None, Some, option_map, unwrap_or}
 use Rattle.std.proofs.lemmas.List.{length-append, length-take-le, reverse-append}

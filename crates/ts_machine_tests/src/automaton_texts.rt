@@ -17,7 +17,7 @@ static TAKEN: [&str; 7] = [
     "forward wide\nstate s free\nstart -inf +inf 0 1 0\nmove s < s ; sub C D ; sub E F ; sub x y ; F ; R\nmove s = s ; C ; E ; D ; F ; R\nmove s > s ; C ; E ; D ; F ; R\nfinish sub C R same\nend\n",
 ];
 
-/// The stop, its line, and behind a colon the text.
+/// The stop, its line, and after a colon the text.
 static REFUSED: [&str; 72] = [
     // nothing
     "text 1:",

@@ -134,7 +134,7 @@ fn has_ranges(domain: &Domain, wanted: &[(i64, i64)]) -> bool {
     seen == count
 }
 
-/// Whether the set has these numbers as its first and its last one, and none before and behind them.
+/// Whether the set has these numbers as its first and its last one, and none before and after them.
 fn has_ends(domain: &Domain, first: i64, last: i64) -> bool {
     let ends = domain.ends();
     (ends.low, ends.high, domain.least()) == (first, last, first)

@@ -157,7 +157,7 @@ fn standing(state: u8, c: i64, d: i64, r: i64) -> At {
     }
 }
 
-// The peak has two cells before the fourth, in C on the left, and one behind it, which is still open on the right.
+// The peak has two cells before the fourth, in C on the left, and one after it, which is still open on the right.
 fn stands_in_the_peak(machine: &Machine) -> bool {
     let series = peak();
     if series.len() != 7 {

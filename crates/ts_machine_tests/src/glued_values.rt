@@ -1,4 +1,4 @@
-//! Glued values and spans worked out from their definition, of registers that need stand behind no series.
+//! Glued values and spans worked out from their definition, of registers that need stand after no series.
 //!
 //! A row is a term and, for each pair of a forward and a reverse state, what is glued there. A pattern has the states
 //! of its seed, counted from 0. In zigzags no occurrence goes on between 0 and 1 or 2 and 0; between 1 and 4 neither

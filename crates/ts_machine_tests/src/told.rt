@@ -2,9 +2,9 @@
 //! numbers are by programs that know no Rattle: they follow the definitions over all pairs of values, or go over all
 //! series, and make the automata of terms from the tables of seeds.
 //!
-//! A table is one text. A box is a head and, behind a line `/`, lines about it; a line `%` stands between two boxes. A
-//! head is a model of one term, perhaps with a requirement; or, behind `machines:`, the names of automata, perhaps
-//! behind a `|` the first and the last cell that they look at, and below them a model without a term: then a line has a
+//! A table is one text. A box is a head and, after a line `/`, lines about it; a line `%` stands between two boxes. A
+//! head is a model of one term, perhaps with a requirement; or, after `machines:`, the names of automata, perhaps
+//! after a `|` the first and the last cell that they look at, and below them a model without a term: then a line has a
 //! span for each of them.
 //!
 //! | line | what it tells |
@@ -163,7 +163,7 @@ pub(crate) fn spans_at(
     }
 }
 
-/// One value of a cell, the span with it alone at a place behind it, and whether the requirement drops it.
+/// One value of a cell, the span with it alone at a place after it, and whether the requirement drops it.
 fn value_is_told(
     alloc: Global,
     m: &Machine,

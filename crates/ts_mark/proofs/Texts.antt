@@ -9,7 +9,7 @@ use Rattle.ts_mark.specs.Rising.{AreRising}
 use Rattle.ts_mark.specs.Walk.{ended, begun, counted}
 use Rattle.ts_mark.proofs.Walk.{holding_counted}
 
--- the word of the cell behind the first k
+-- the word of the cell after the first k
 word_of : (ranges : List Range) (k first behind : ℕ) → AreRising ranges → first ≡ ended (k + 1) ranges → behind ≡ begun (k + 1) ranges →
     counted (first + 1) (behind - first) ≡ holding (k + 1) 1 ranges
 word_of ranges k first behind rising starts ends =
@@ -29,7 +29,7 @@ cell_more ranges k cells first behind old mid new all rising within kept starts 
     ∙ ap (λ (n : ℕ). old ++ cell_words ranges (k + 1) n) (sym left)
     ∙ kept
 
--- one number more behind a `+`
+-- one number more after a `+`
 pub number_more : (k behind : ℕ) (old mid new all : List ℕ) → k < behind → old ++ more_numbers (counted (k + 1) (behind - k)) ≡ all →
     mid ≡ old ++ 43 ∷ [] → new ≡ mid ++ decimal (k + 1) → new ++ more_numbers (counted (k + 1 + 1) (behind - (k + 1))) ≡ all
 number_more k behind old mid new all within kept plus grown =
@@ -40,7 +40,7 @@ number_more k behind old mid new all within kept plus grown =
     ∙ ap (λ (n : ℕ). old ++ more_numbers (counted (k + 1) n)) (sym left)
     ∙ kept
 
--- the first number, and the others behind it
+-- the first number, and the others after it
 pub joined_more : (result : Result (Unit {0}) Memory) (first behind : ℕ) (old mid new : List ℕ) → first < behind → mid ≡ old ++ decimal (first + 1) →
     OnOk result (new ≡ mid ++ more_numbers (counted (first + 1 + 1) (behind - (first + 1)))) →
     OnOk result (new ≡ old ++ joined (counted (first + 1) (behind - first)))

@@ -29,7 +29,7 @@ ended_goes_on cell ranges = goes_on (λ r. nat_lt r.last cell) (λ r. nat_lt r.l
 pub begun_goes_on : (cell : ℕ) (ranges : List Range) → begun cell ranges + begun (cell + 1) (drop (begun cell ranges) ranges) ≡ begun (cell + 1) ranges
 begun_goes_on cell ranges = goes_on (λ r. nat_le r.first cell) (λ r. nat_le r.first (cell + 1)) (λ r e. grind arith) ranges
 
--- behind a range that doesn't end before the cell, none does
+-- after a range that doesn't end before the cell, none does
 none_ended : (cell : ℕ) (r : Range) (rs : List Range) → RiseAfter r rs → nat_lt r.last cell ≡ false → ended cell rs ≡ 0
 none_ended cell r [] h e = refl
 none_ended cell r (s ∷ ss) h e =

@@ -69,7 +69,7 @@ fn push_marks(text: &mut Vec<u8>, cells: u32, ranges: &[Range]) -> Result<(), Me
 }
 
 /// A word for each cell. Both ends of the ranges rise: those that ended before the cell stand before all others, and
-/// those that begin after it behind, so that two places go on with the cells.
+/// those that begin after it after, so that two places go on with the cells.
 fn push_cells(text: &mut Vec<u8>, cells: u32, ranges: &[Range]) -> Result<(), Memory>
     requires few { length ranges.now < 4000000000 }
     requires rising { AreRising ranges.now }
@@ -86,7 +86,7 @@ fn push_cells(text: &mut Vec<u8>, cells: u32, ranges: &[Range]) -> Result<(), Me
     Ok(())
 }
 
-/// The place behind the ranges that end before the cell, from this one on.
+/// The place after the ranges that end before the cell, from this one on.
 fn past_ended(ranges: &[Range], from: usize, cell: u32) -> usize
     requires { from ≤ length ranges.now }
     ensures exact { result ≡ from + ended cell (drop from ranges.now) }
@@ -99,7 +99,7 @@ fn past_ended(ranges: &[Range], from: usize, cell: u32) -> usize
     place
 }
 
-/// The place behind the ranges that begin at the cell or before it, from this one on.
+/// The place after the ranges that begin at the cell or before it, from this one on.
 fn past_begun(ranges: &[Range], from: usize, cell: u32) -> usize
     requires { from ≤ length ranges.now }
     ensures exact { result ≡ from + begun cell (drop from ranges.now) }
@@ -125,7 +125,7 @@ fn push_joined(text: &mut Vec<u8>, first: usize, behind: usize) -> Result<(), Me
     push_more(text, first + 1, behind)
 }
 
-/// The numbers of the ranges from one place to before another, each behind a `+`.
+/// The numbers of the ranges from one place to before another, each after a `+`.
 fn push_more(text: &mut Vec<u8>, first: usize, behind: usize) -> Result<(), Memory>
     requires few { behind < 4000000000 }
     ensures { OnOk result (text.new.items ≡ text.old.items ++ more_numbers (counted (first + 1) (behind - first))) }

@@ -14,7 +14,7 @@ use Rattle.ts_model.specs.ModelReading.{needs_lists, texts_of, line_gives, onwar
 use Rattle.ts_model.specs.ModelParts.{ModelParts, nothing}
 use Rattle.ts_model.proofs.LongWords.{heads_give}
 
--- rows, and the first line behind them that isn't text; and the same of more lines, whose reading goes on behind these
+-- rows, and the first line after them that isn't text; and the same of more lines, whose reading goes on after these
 module _ (lists : Bool) (rows longer : List Row) (bad worse : Option ℕ) (next : ModelParts → Result ModelParts (ℕ × ModelKind))
     (later : (m : ModelParts) → then_on (read_rows lists m longer) (unless_bad worse) ≡ then_on (then_on (read_rows lists m rows) (unless_bad bad)) next)
     (number : ℕ) where
@@ -41,7 +41,7 @@ no_more n = omega arith
 shifted : (n : ℕ) (line : List ℕ) (lines : List (List ℕ)) → n + 1 + length lines ≡ n + length (line ∷ lines)
 shifted n line lines = omega arith
 
--- one line behind others, the first of which has this number
+-- one line after others, the first of which has this number
 more_lines : (need : Need) (n : ℕ) (m : ModelParts) (lines : List (List ℕ)) (line : List ℕ) →
     lines_from need n m (lines ++ line ∷ []) ≡ then_on (lines_from need n m lines) (λ a. line_step need (n + length lines) a line)
 more_lines need n m [] line = ap (λ (k : ℕ). line_step need k m line) (sym (no_more n))
@@ -59,7 +59,7 @@ gist_gives need number m None = Err (number, NotText)
 gist_gives need number m (Some []) = Ok m
 gist_gives need number m (Some (h ∷ hs)) = onward number (line_gives (needs_lists need) m (h ∷ hs)) Ok
 
--- behind the only line of words nothing is left to read
+-- after the only line of words nothing is left to read
 pub one_row : (number : ℕ) (g : Result ModelParts ModelKind) → then_on (onward number g (λ a. Ok a)) (unless_bad None) ≡ onward number g Ok
 one_row number (Err kind) = refl
 one_row number (Ok after) = refl
@@ -105,7 +105,7 @@ module _ (need : Need) (text line : List ℕ) (whole : AreEnded text) (is : IsLi
 next_number : (count length : ℕ) → count ≡ length → 1 + length ≡ count + 1
 next_number count length is = omega (arith, is)
 
--- what the line gives behind those that were read
+-- what the line gives after those that were read
 step_is : (old : SoFar) (given : List ℕ) (gives : Result ModelParts (ℕ × ModelKind)) → line_step old.need (old.count + 1) old.stated (without_end given)
     ≡ gives →
     (need : Need) (text line : List ℕ) → AreEnded text → IsLine line → StandsFor given line → HasRead need text (Ok old) →

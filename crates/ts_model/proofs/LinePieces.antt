@@ -78,7 +78,7 @@ finished_first line more f =
 finished_alone : (line : List ℕ) → IsFinished line → strict_lines line ≡ line ∷ []
 finished_alone line f = ap strict_lines (sym (append-nil line)) ∙ finished_first line [] f
 
--- bytes behind the last LF are a line, unless there are none
+-- bytes after the last LF are a line, unless there are none
 abbrev pub last_line : List ℕ → List (List ℕ)
 last_line [] = []
 last_line (b ∷ bs) = (b ∷ bs) ∷ []
@@ -145,7 +145,7 @@ finished_halves line more f =
     ap halves (finished_first line more f)
     ∙ ap (λ (x : List ℕ). cond (is_separator line) (made [] (Some x)) (after_front line (halves_of more))) (lines_are more)
 
--- the same of a last line without an LF: it is of the model, or the '%%' behind which nothing stands
+-- the same of a last line without an LF: it is of the model, or the '%%' after which nothing stands
 
 last_halves : (line : List ℕ) → 0 < length line → halves (last_line line) ≡ cond (is_separator line) (made [] (Some [])) (made line None)
 last_halves [] some = absurd (omega (arith, some))

@@ -96,7 +96,7 @@ state_on (Stopped stop) (Open q) given taken calm = absurd taken
 state_on (Stopped stop) (Stopped again) given taken calm =
     subst (λ (s : ModelStop). ReadsLine (Err stop) given (Err s)) (sym taken) (stopped_on stop given)
 
--- a line is read, unless memory was wanting
+-- a line is read, unless memory was missing
 pub reads : (old new : State) (before : Result SoFar ModelStop) (given : List ℕ) → state_view old ≡ before → StateTakes old (without_end given) new →
     IsCalm new →
     ReadsLine before given (state_view new)
@@ -118,7 +118,7 @@ calm_before (Open p) new line taken calm = tt
 calm_before (Stopped stop) (Open q) line taken calm = absurd taken
 calm_before (Stopped stop) (Stopped again) line taken calm = subst (λ (s : ModelStop). IsCalm (Stopped s)) taken calm
 
--- memory wasn't wanting before the line, and isn't behind it
+-- memory wasn't missing before the line, and isn't after it
 pub stays_calm : (old new : State) (before : Result SoFar ModelStop) (line : List ℕ) → state_view old ≡ before → StateTakes old line new → IsCalm new →
     (before ≢ Err Memory) × (state_view new ≢ Err Memory)
 stays_calm old new before line is taken calm =
@@ -135,7 +135,7 @@ counts old new before line is taken = subst (λ (b : Result SoFar ModelStop). li
     go (Stopped stop) (Open q) t = absurd t
     go (Stopped stop) (Stopped again) t = omega arith
 
--- want of memory tells that the line is text, unless it was wanting before
+-- lack of memory tells that the line is text, unless it was wanting before
 pub wanted_text : (old new : State) (before : Result SoFar ModelStop) (given : List ℕ) → state_view old ≡ before →
     (new ≡ Stopped Memory → (old ≡ Stopped Memory) ⊎ (is_text (without_end given) ≡ true)) → new ≡ Stopped Memory →
     (before ≡ Err Memory) ⊎ (is_text (without_end given) ≡ true)
@@ -153,7 +153,7 @@ wanted_ends : (s : State) (result : Result Model ModelStop) → StateEnds s resu
 wanted_ends (Open p) result ends is = absurd (subst calm_seen is tt)
 wanted_ends (Stopped stop) result ends is = ends ∙ ap (λ (r : Result SoFar ModelStop). Err (stop_of r)) is
 
--- where memory was wanting, the end tells that
+-- where memory was missing, the end tells that
 pub ends_wanted : (s : State) (before : Result SoFar ModelStop) (result : Result Model ModelStop) → state_view s ≡ before → StateEnds s result →
     before ≡ Err Memory → result ≡ Err Memory
 ends_wanted s before result is end wanted = wanted_ends s result end (is ∙ wanted)

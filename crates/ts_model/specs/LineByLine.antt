@@ -27,7 +27,7 @@ HasRead need text (Ok s) =
 HasRead need text (Err (Refused line kind)) = lines_reading need (cut_of text) ≡ Err (line, kind)
 HasRead need text (Err Memory) = ⊥
 
--- how many lines were read; behind a stop none is counted
+-- how many lines were read; after a stop none is counted
 abbrev pub lines_read : Result SoFar ModelStop → ℕ
 lines_read (Ok s) = s.count
 lines_read (Err stop) = 0

@@ -51,7 +51,7 @@ abbrev pub HasLines : Need → List ℕ → Option (Result SoFar ModelStop) → 
 HasLines need text None = text ≡ []
 HasLines need text (Some reader) = HasRead need text reader
 
--- these lines were read, and the line that what is kept stands for may be read behind them
+-- these lines were read, and the line that what is kept stands for may be read after them
 pub record MayRead (t : ModelText) : Type 0 where
   pub text : List ℕ
   pub line : List ℕ

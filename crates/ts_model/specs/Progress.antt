@@ -29,7 +29,7 @@ pub record HasTaken (old new : Progress) (line : List ℕ) : Type 0 where
   pub count : new.count ≡ old.count + 1
   pub gives : line_step old.need (old.count + 1) (draft_parts old.draft) line ≡ Ok (draft_parts new.draft)
 
--- the line is taken, or is bad, or memory was wanting
+-- the line is taken, or is bad, or memory was missing
 abbrev pub TakesLine : Progress → List ℕ → Result (Unit {0}) ModelStop → Progress → Type 0
 TakesLine old line (Ok _) new = HasTaken old new line
 TakesLine old line (Err (Refused number kind)) new =
@@ -50,13 +50,13 @@ StateTakes (Open old) line (Stopped Memory) = Unit {0}
 StateTakes (Stopped old) line (Open new) = ⊥
 StateTakes (Stopped old) line (Stopped new) = new ≡ old
 
--- memory wasn't wanting
+-- memory wasn't missing
 abbrev pub IsCalm : State → Type 0
 IsCalm (Open p) = Unit {0}
 IsCalm (Stopped (Refused number kind)) = Unit {0}
 IsCalm (Stopped Memory) = ⊥
 
--- the end behind the last line
+-- the end after the last line
 abbrev pub StateEnds : State → Result Model ModelStop → Type 0
 StateEnds (Open p) result = Reads result (ended_model p.need p.count (draft_parts p.draft))
 StateEnds (Stopped stop) result = result ≡ Err stop

@@ -36,11 +36,11 @@ word_at words k = unwrap_or (slice_get words k) []
 abbrev pub term_length : List (List ℕ) → ℕ
 term_length ws = if is_count (word_at ws 2) then 4 else 5
 
--- behind so many words two more stand, the first of which is `in`
+-- after so many words two more stand, the first of which is `in`
 abbrev pub has_tail : ℕ → List (List ℕ) → Bool
 has_tail n ws = (length ws == n + 2) && is_in (word_at ws n)
 
--- the words end with the name of the pattern, or with a tail behind it
+-- the words end with the name of the pattern, or with a tail after it
 abbrev pub has_term_length : List (List ℕ) → Bool
 has_term_length ws = (length ws == term_length ws) || has_tail (term_length ws) ws
 

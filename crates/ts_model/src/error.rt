@@ -45,7 +45,7 @@ pub enum ModelKind {
     NoObjective,
 }
 
-/// Why a line adds nothing: the first kind that holds of it, or want of memory.
+/// Why a line adds nothing: the first kind that holds of it, or lack of memory.
 #[derive(Clone, Copy)]
 pub(crate) enum LineStop {
     Bad(ModelKind),
@@ -105,7 +105,7 @@ pub(crate) fn at_line(line: u32, stop: LineStop) -> ModelStop
 }
 
 /// Why a text states no series: it isn't one `series` line, a word isn't a number within the limits, or there are
-/// too many or too few; or want of memory.
+/// too many or too few; or lack of memory.
 #[derive(Clone, Copy, Debug, PartialEq, Eq, Error)]
 pub enum SeriesStop {
     #[error("not one series line")]

@@ -63,7 +63,7 @@ impl ModelText {
         reader_of(self.alloc, self.need, self.reader.take())?.finish()
     }
 
-    /// The same where the text has ended, behind bytes that may be a last line without an LF.
+    /// The model of the whole text, whose last line may lack its LF, or its first bad line.
     pub fn finish(&mut self) -> Result<Model, ModelStop>
         requires { (bytes : List ℕ) × IsInModel bytes self.old × (length bytes < too_many) }
         ensures { (bytes : List ℕ) → IsInModel bytes self.old →
@@ -112,8 +112,8 @@ impl ModelText {
         }
     }
 
-    /// Makes the reader, and gives the line to it. A call clears the places of all its values, a reader's too, so this
-    /// stands apart from `read_line`.
+    /// Makes the reader, and gives the first line to it. It is no part of `read_line`, which would then have room for a
+    /// reader on the stack at every line.
     fn read_first_line(&mut self) -> Result<(), Memory>
         requires none { self.old.reader ≡ None }
         requires may { MayRead self.old }

@@ -142,7 +142,7 @@ fn term_length(words: &[Word]) -> usize
     if is_count(text_at(words, 2)) { 4 } else { 5 }
 }
 
-/// Whether the words after `term` end with the name of the pattern, or with a tail behind it.
+/// Whether the words after `term` end with the name of the pattern, or with a tail after it.
 #[tactic(auto, using(crate::proofs::TermLines::too_short))]
 fn has_term_length(words: &[Word]) -> bool
     ensures { result ≡ has_term_length (texts words.now) }
@@ -231,7 +231,7 @@ fn parse_few<'a>(form: Form, words: &[Word<'a>]) -> Result<Statement<'a>, LineSt
     }
 }
 
-/// The same, whose words after that of the form are those of the bytes from a column on.
+/// What a line of this form states, whose further words are those of the bytes from a column on.
 fn parse_first<'a>(
     alloc: Global,
     form: Form,

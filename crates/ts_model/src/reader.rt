@@ -78,7 +78,7 @@ impl Progress {
     }
 }
 
-/// On the way, or stopped: by a bad line, or for want of memory.
+/// On the way, or stopped: by a bad line, or for lack of memory.
 #[derive(Drop)]
 pub(crate) enum State {
     Open(Progress),
@@ -106,7 +106,7 @@ impl State {
         *self = State::Stopped(stop);
     }
 
-    /// `Memory` where memory was wanting.
+    /// `Memory` where memory was missing.
     fn answer(&self) -> Result<(), Memory>
         ensures calm { OnOk result (IsCalm self.now) }
         ensures wanted { OnErr result (self.now ≡ Stopped NoMemory) }

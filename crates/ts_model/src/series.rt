@@ -101,7 +101,8 @@ pub fn read_series(alloc: Global, tokens: &Tokens<'_>, n: u32) -> Result<Vec<i64
     read_within(alloc, tokens, n as usize, n as usize)
 }
 
-/// The same of 1 to 512 numbers, where no model says how many: `Length` where there are more, or none.
+/// The numbers of a series line, 1 to 512 of them, where no model says how many; else the first of the refusals of
+/// `read_series` that holds: `Length` where there are more, or none.
 pub fn read_any_series(alloc: Global, tokens: &Tokens<'_>) -> Result<Vec<i64>, SeriesStop>
     ensures { ReadsSeries (λ v. v.items) result (any_series_reading (cut_view tokens.now)) }
 {

@@ -21,7 +21,7 @@ from_last : (b : Body) (s : Standing Ext) (x : ℤ) (xs : List ℤ) (l v : ℤ) 
 from_last b s x [] l v e = ap (λ z. step_of b s z v) e
 from_last b s x (y ∷ ys) l v e = from_last b (step_of b s x y) y ys l v e
 
--- behind some readings the next one makes a move from the last
+-- after some readings the next one makes a move from the last
 pub standings_moved : (bs : List Body) (x : ℤ) (xs : List ℤ) (l v : ℤ) → IsLast (x ∷ xs) l →
     moved bs (standings_after bs (x ∷ xs)) l v ≡ standings_after bs ((x ∷ xs) ++ v ∷ [])
 standings_moved [] x xs l v e = refl

@@ -1,4 +1,4 @@
--- Where a stack of ranges is cut: one more range from the end that begins at the cell or behind it, or the first that
+-- Where a stack of ranges is cut: one more range from the end that begins at the cell or after it, or the first that
 -- begins before it.
 use Rattle.std.specs.Prelude.{◌≡◌, ℕ, ◌+◌, ◌-◌, ◌<◌, ◌≤◌, List, ◌∷◌, length, drop, Some}
 use Rattle.std.proofs.Common.{sym, ◌∙◌, ap, subst, arith, get_or, add-one, drop-cons}

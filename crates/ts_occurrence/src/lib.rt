@@ -4,7 +4,7 @@
 //! A series is worked on by four calls: `signature` makes its letters, `occurrences` finds the e-ranges of
 //! the maximal matches, `part` lends the cells of a range, and `value` aggregates their features. The promise to the
 //! layers above: on every series within the limits `value` answers the term's value by the definition over all places,
-//! whatever the pattern; only want of memory is answered otherwise. `value_with` takes the signature from its caller,
+//! whatever the pattern; only lack of memory is answered otherwise. `value_with` takes the signature from its caller,
 //! so that all terms of a model share one; `aggregate` takes the ranges, for who has them from elsewhere.
 //!
 //! The search reads one letter at a time and keeps, for each start at which a match may begin or grow, what is left to

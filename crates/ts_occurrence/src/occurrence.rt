@@ -33,7 +33,7 @@ pub fn occurrences(alloc: Global, p: &Pattern, w: &[Letter]) -> Result<Vec<Range
     Ok(maximal_matches(alloc, p, w)?)
 }
 
-/// The same, as what the definition over matches says of it.
+/// The e-ranges of the maximal matches, by the definition over matches.
 fn maximal_matches(alloc: Global, p: &Pattern, w: &[Letter]) -> Result<Vec<Range>, Memory>
     requires { length w.now < 4000000000 }
     ensures { IfOk result (λ v. AreRanges (shape_of p.now.regex) p.now.b p.now.a w.now v.items) }

@@ -2,7 +2,7 @@
 //!
 //! A start is a sign at which a match may begin, and its residual is what the signs read from there on leave of
 //! the pattern's expression. A configuration lists the starts that still matter, earliest first, one for each
-//! residual that has a word; the tag says how the cell of a start, behind its trim, stands to the decoder.
+//! residual that has a word; the tag says how the cell of a start, after its trim, stands to the decoder.
 
 ghost use Rattle.std.specs.Prelude.{◌≡◌, ◌&&◌, nat_lt, map, IfOk};
 ghost use Rattle.std.specs.List.{list_all};

@@ -170,7 +170,7 @@ fn write_numbers(text: &mut Vec<u8>) -> Result<(), Memory> {
     push_ext(text, Ext::PosInf)
 }
 
-/// Whether numbers are written behind what a text has.
+/// Whether numbers are written after what a text has.
 fn are_written(alloc: Global) -> Result<bool, Memory> {
     let mut text = Vec::from_slice(alloc, b"x ")?;
     write_numbers(&mut text)?;

@@ -1,6 +1,6 @@
 //! Values from outside: the residuals of the catalogue's patterns, and words of their languages.
 //!
-//! Expressions are written with the operator behind its parts: `.` for Cat, `|` for Alt, `*` for Star, `e` for Eps
+//! Expressions are written with the operator after its parts: `.` for Cat, `|` for Alt, `*` for Star, `e` for Eps
 //! and `0` for Empty.
 
 pub(super) mod tables;

@@ -13,7 +13,7 @@ use ts_token::{ShortLine, cut_tokens};
 
 mod comparisons;
 
-/// The number of cells, the values of each behind a colon, the objective, the requirements and the terms; or the line
+/// The number of cells, the values of each after a colon, the objective, the requirements and the terms; or the line
 /// that is refused, and why.
 static HELD: &str = "\
 2: 0 1 2 3 4 5 6 7 8 9: 0 1 2 3 4 5 6 7 8 9 None [] {}|cells 2/
@@ -126,7 +126,7 @@ fn parts_of(alloc: Global, model: &Model) -> Result<String, AllocError> {
     format!(in alloc; "{n}{values} {objective:?} {requirements:?} {terms:?}")
 }
 
-/// A colon for each cell, and its values behind it.
+/// A colon for each cell, and its values after it.
 fn values_of(alloc: Global, model: &Model) -> Result<String, AllocError> {
     let mut text = String::new(alloc);
     for cell in &model.cells {

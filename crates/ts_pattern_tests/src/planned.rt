@@ -20,7 +20,7 @@ enum Answer {
 }
 
 struct Built {
-    /// The expression, with `.` for a chain, `|` for a union and `*` for a star behind their parts.
+    /// The expression, with `.` for a chain, `|` for a union and `*` for a star after their parts.
     pattern: &'static str,
     /// The trims before and after.
     b: u8,

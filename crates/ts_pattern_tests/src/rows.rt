@@ -12,7 +12,7 @@ pub(super) fn word(row: &[u8], place: usize) -> &[u8] {
     words.first
 }
 
-/// What stands before the first `|` of a row, and what stands behind it. None where there is no `|`.
+/// What stands before the first `|` of a row, and what stands after it. None where there is no `|`.
 pub(super) fn halves(row: &[u8]) -> Option<(&[u8], &[u8])> {
     for k in 0..row.len() {
         if row[k] == b'|' {

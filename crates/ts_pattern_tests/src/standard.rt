@@ -137,7 +137,7 @@ fn one_call_inside(rt: HostRuntime) {
 }
 
 /// How many bytes are read under this limit, or why none, and by how many calls. So many reads give two bytes each, the
-/// next one gives none, and the one behind it fails.
+/// next one gives none, and the one after it fails.
 fn read_of(alloc: Global, reads: u8, limit: u8) -> (Result<usize, ReadStop>, u64) {
     let counts = Counts::new();
     let mut input = StdIn::new(Device {

@@ -23,7 +23,7 @@ type Failure = (u32, Letter, &'static str);
 /// A pattern, a transducer, and a plan.
 #[derive(Clone, Copy)]
 struct Small {
-    /// The expression, with `.` for a chain, `|` for a union and `*` for a star behind their parts.
+    /// The expression, with `.` for a chain, `|` for a union and `*` for a star after their parts.
     pattern: &'static str,
     /// The trims before and after.
     b: u8,
@@ -98,7 +98,7 @@ fn residuals(alloc: Global, whole: &Regex, written: &[u8]) -> Result<Vec<Regex>,
     Ok(residuals)
 }
 
-/// The tag that stands behind a residual's digit; None for a digit.
+/// The tag that stands after a residual's digit; None for a digit.
 fn tag_of(letter: u8) -> Option<Tag> {
     match letter {
         b'y' => Some(Tag::Young(1)),
@@ -129,7 +129,7 @@ fn configuration(alloc: Global, written: &[u8]) -> Result<Configuration, Memory>
     Ok(Configuration { state, live })
 }
 
-/// The configurations that a text has, each a word: its state, and behind it the residual and the tag of each entry.
+/// The configurations that a text has, each a word: its state, and after it the residual and the tag of each entry.
 pub(super) fn configurations(alloc: Global, written: &str) -> Result<Vec<Configuration>, Memory> {
     let mut configurations = Vec::new(alloc);
     for word in written.split_whitespace() {

@@ -22,7 +22,7 @@ nest_last [] s t = refl
 nest_last (r ∷ []) s t = refl
 nest_last (r ∷ q ∷ rs) s t = ap (λ z. Alt r z) (nest_last (q ∷ rs) s t)
 
--- r goes in behind the first k of the members
+-- r goes in after the first k of the members
 abbrev pub Passed : Shape → List Shape → ℕ → Type 0
 Passed r ss k = insert_member r ss ≡ take k ss ++ insert_member r (drop k ss)
 

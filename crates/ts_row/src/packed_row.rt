@@ -62,7 +62,7 @@ impl<const N: usize> Column<N> {
         Ok(())
     }
 
-    /// Takes the hulls at the places from `from` up to `to` out; those behind them move down.
+    /// Takes the hulls at the places from `from` up to `to` out; those after them move down.
     fn take_out(&mut self, from: usize, to: usize)
         requires { from ≤ to }
         ensures { self.new ≡ remove_range self.old from to }

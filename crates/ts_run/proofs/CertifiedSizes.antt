@@ -254,7 +254,7 @@ lines_are_of c s =
     let few = s.few in
     record { certificate = s.within.certificate; are = lines_cut Start (cert_lines c) (omega (arith, count, few)) runs.0 }
 
--- behind the bytes of its model
+-- after the bytes of its model
 
 ended_short : (bytes : List ℕ) → length (end_line bytes) ≤ length bytes + 1
 ended_short [] = omega arith

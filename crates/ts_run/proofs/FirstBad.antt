@@ -37,7 +37,7 @@ one_of_line line = go (is_text line)
     go true = one_of_words (words_of line)
     go false = tt
 
--- how lines are read behind so many readings, the first of them with this number: up to the first bad one, or all
+-- how lines are read after so many readings, the first of them with this number: up to the first bad one, or all
 
 record EndsAtBad (count number : ℕ) (lines : List (List ℕ)) : Type 0 where
   place : ℕ

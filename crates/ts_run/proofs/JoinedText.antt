@@ -1,4 +1,4 @@
--- A model text that was read well, and a text behind it after a line `%%`, are cut into these two again.
+-- A model text that was read well, and a text after it after a line `%%`, are cut into these two again.
 use Rattle.std.proofs.Common.{◌≡◌, ℕ, ◌+◌, ◌&&◌, not, Bool, true, false, cond, Option, Some, None, Ok, Err, List, [], ◌∷◌, ◌++◌, length, refl, sym, ◌∙◌, ap, subst, append-nil, eqb-true}
 use Rattle.std.specs.Prelude.{◌==◌, codes, is_none, Result}
 use Rattle.std.specs.List.{AllByRecursion, concat}

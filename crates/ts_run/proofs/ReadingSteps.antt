@@ -324,7 +324,7 @@ module _ (m : ModelParts) (bytes part : List ℕ) (old mid new : ReadingsText) (
       let f = part_ends h.line part bare h.free some is in
       reads m h.text (h.line ++ part) h.values h.ended (one_line (h.line ++ part) f) (pushed h.line h.short) mid_taken
 
--- behind a last line without an LF
+-- after a last line without an LF
 pub may_end_last : (m : ModelParts) (bytes : List ℕ) (old : ReadingsText) → AreReadings m bytes old → length bytes < too_many → MayRead old
 may_end_last m bytes old h few =
     let long = ap (λ (x : List ℕ). length x) h.parts ∙ length-append h.text h.line in
@@ -372,7 +372,7 @@ module _ (m : ModelParts) (bytes : List ℕ) (old : ReadingsText) (h : AreReadin
     ap (values_reply m) e ∙ is ∙ ap (λ (d : Due). record { text = d.text ++ more; status = status }) (sym (due_is m bytes [] old h)),
   )
 
-  -- behind a line with its LF
+  -- after a line with its LF
   pub ends_none : (before after : List ℕ) (count : ℕ) (status : Status) → ((l : List ℕ) → IsShort l old.line → l ≡ []) → count ≡ old.monitor.count →
       after ≡ before ++ (end_of count).text → status ≡ Done → AddsReply (readings_due m bytes) (readings_reply m bytes) before after status
   ends_none before after count status none counted put same =
@@ -387,7 +387,7 @@ module _ (m : ModelParts) (bytes : List ℕ) (old : ReadingsText) (h : AreReadin
     last_line_come ended reads =
         reads m h.text h.line h.values h.ended (unfinished_line h.line h.free (some h.line h.short)) h.short h.taken
 
-    -- behind a last line without one, which is good
+    -- after a last line without one, which is good
     pub ends_good : (after : List ℕ) (count : ℕ) (status : Status) → ReadsLine old before mid None new → count ≡ new.monitor.count →
         after ≡ mid ++ (end_of count).text → status ≡ Done → AddsReply (readings_due m bytes) (readings_reply m bytes) before after status
     ends_good after count status reads counted put same =

@@ -1,4 +1,4 @@
--- The values of the terms, put behind a text one after the other.
+-- The values of the terms, put after a text one after the other.
 use Rattle.std.proofs.Common.{◌≡◌, ◌≤◌, ℕ, ◌+◌, Some, List, [], ◌∷◌, ◌++◌, drop, length, map, take, sym, ◌∙◌, ap, append_assoc, append-nil, arith}
 use Rattle.std.proofs.lemmas.List.{length-map}
 use Rattle.std.specs.Prelude.{slice_get}
@@ -42,11 +42,11 @@ line_written values k old text more row all so_far put =
     (sym (append-nil text) ∙ ap (λ (vs : List Ext). text ++ behind (map ext_text vs)) (sym (drop_of_length-le values all)) ∙ so_far)
     ∙ append_assoc old row (10 ∷ [])
 
--- what was put behind a text is cut off again
+-- what was put after a text is cut off again
 pub cut_back : (old text now front : List ℕ) (n : ℕ) → n ≡ length old → text ≡ old ++ front → now ≡ take n text → now ≡ old
 cut_back old text now front n long put cut =
     cut ∙ ap (λ (k : ℕ). take k text) long ∙ ap (take (length old)) put ∙ take-append_seam old front
 
--- what was put behind a text, and more behind that
+-- what was put after a text, and more after that
 pub put_twice : (text mid more front piece : List ℕ) → mid ≡ text ++ front → more ≡ mid ++ piece → more ≡ text ++ (front ++ piece)
 put_twice text mid more front piece e f = f ∙ ap (λ (t : List ℕ). t ++ piece) e ∙ append_assoc text front piece

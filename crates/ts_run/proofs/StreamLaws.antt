@@ -1,4 +1,4 @@
--- Texts that are owed one behind the other, and how a call ends that gives a reply line by line.
+-- Texts that are owed one after the other, and how a call ends that gives a reply line by line.
 use Rattle.std.proofs.Common.{◌≡◌, ℕ, ◌+◌, ◌-◌, ◌<◌, ◌≤◌, inl, inr, Bool, true, false, nat_lt, Option, Some, None, List, [], ◌∷◌, ◌++◌, length, take, drop, refl, sym, ◌∙◌, ap, subst, arith, append_assoc, append-nil, length-append}
 use Rattle.std.specs.Prelude.{IsSome, Result, Ok, Err, OnErr}
 use Rattle.std.specs.Result.{is_err}
@@ -38,13 +38,13 @@ pub lines_behind : (a b : List ℕ) → IsLines a → IsLines b → IsLines (a +
 lines_behind a b h (inl none) = subst IsLines (sym (ap (λ (t : List ℕ). a ++ t) none ∙ append-nil a)) h
 lines_behind a b h (inr some) = inr (a ++ some.0, ap (λ (t : List ℕ). a ++ t) some.1 ∙ sym (append_assoc a some.0 (10 ∷ [])))
 
--- a front of the text was taken
+-- a prefix of the text was taken
 pub front_taken : (front text : List ℕ) (before after : Option (List ℕ)) → IsFront front text → after ≡ taken_more before front → Prefix text before after
 front_taken front text before after h e =
     let count = ap (λ (t : List ℕ). length t) h.1 ∙ length-append front h.0 in
     (length front, omega (arith, count), e ∙ ap (taken_more before) (sym (ap (take (length front)) h.1 ∙ take-append_seam front h.0)))
 
--- a reply behind a text that was taken
+-- a reply after a text that was taken
 
 module _ (a b : List ℕ) (given : Status) (before mid after : Option (List ℕ)) (took : mid ≡ taken_more before a) (lines : IsLines a) where
   twice : (t : List ℕ) → after ≡ taken_more mid t → after ≡ taken_more before (a ++ t)

@@ -1,4 +1,4 @@
--- What a piece of a stream leads to, by what was put behind the text and what was written of it.
+-- What a piece of a stream leads to, by what was put after the text and what was written of it.
 use Rattle.std.proofs.Common.{◌≡◌, ℕ, inl, Option, Some, None, List, [], ◌++◌, take, refl, sym, ◌∙◌, ap, subst, append-nil}
 use Rattle.ts_base.specs.Outside.{Prefix, taken_more}
 use Rattle.ts_run.specs.LiveEndings.{EndsInLines}
@@ -33,7 +33,7 @@ pub no_read : (given status : Status) → ComesOfInput given → (EndsWritten st
 no_read given status input written e = subst ComesOfInput (sym (written (subst EndsWritten (sym e) tt)) ∙ e) input
 
 module _ (due : List ℕ → Due) (bytes piece cleared text : List ℕ) (before after : Option (List ℕ)) (none : cleared ≡ []) where
-  -- all that the piece adds was put behind the text
+  -- all that the piece adds was put after the text
 
   module _ (h : AddsDue due bytes piece cleared text) where
     put : (due (bytes ++ piece)).text ≡ (due bytes).text ++ text

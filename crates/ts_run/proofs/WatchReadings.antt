@@ -19,7 +19,7 @@ use Rattle.ts_run.specs.declared.status.Status.{Status}
 use Rattle.ts_run.specs.declared.status.Status.TheVariants.{Refused}
 use Rattle.ts_run.proofs.StreamLaws.{front_all, lines_behind}
 
--- behind a bad line nothing counts
+-- after a bad line nothing counts
 abbrev pub joined_by : Option ℕ → Readings → Readings → Readings
 joined_by (Some number) r more = r
 joined_by None r more = after_values r.values more
@@ -70,7 +70,7 @@ more_lines count number [] ms =
 more_lines count number (l ∷ ls) ms =
     one_step count number l ls ms (more_lines count (number + 1) ls ms) (more_lines (count + 1) (number + 1) ls ms) (line_gives l)
 
--- the readings of a text behind whole lines
+-- the readings of a text after whole lines
 pub more_text : (text more : List ℕ) → AreEnded text →
     readings_of (text ++ more) ≡ joined_by (readings_of text).bad (readings_of text)
     (readings_from (0 + length (readings_of text).values) (1 + length (lines_of text)) (lines_of more))
@@ -136,7 +136,7 @@ module _ (m : ModelParts) where
             ∙ ap (λ s. record { text = (values_due m r).text; status = s }) status_is,
       )
 
--- readings behind whole lines of others
+-- readings after whole lines of others
 
 module _ (m : ModelParts) (rest more : List ℕ) (ended : AreEnded rest) where
   abbrev again : Readings

@@ -1,4 +1,4 @@
--- A stream of `watch` that comes part by part: its model, and what stands behind it.
+-- A stream of `watch` that comes part by part: its model, and what stands after it.
 use Rattle.std.proofs.Common.{◌≡◌, ℕ, Bool, true, false, cond, Option, Some, None, Ok, Err, List, [], ◌++◌, length, refl, sym, ◌∙◌, ap, subst, append_assoc, append-nil, length-append, ◌+◌, ◌<◌, ◌≤◌, arith}
 use Rattle.std.specs.Prelude.{Result}
 use Rattle.std.proofs.lemmas.List.{nil_from_length}
@@ -64,7 +64,7 @@ module _ (m : ModelParts) (before after : List ℕ) (status : Status) where
   pub none_open : has_window m ≡ false → IsPut (end_of 0) before after status → IsPut (reply_on (Ok m) []) before after status
   none_open windowless put = subst is_put_by (sym windowless) put
 
--- behind it
+-- after it
 
 module _ (bytes : List ℕ) (r : ReadingsText) (h : IsBehindModel bytes r) where
   pub behind_due : watch_due bytes ≡ readings_due h.model h.rest
@@ -196,7 +196,7 @@ whole_model bytes need model e = whole_stated need (cut_of e.text) (model_parts 
 pub few_terms : (bytes : List ℕ) (need : Need) (model : Model) → EndsSo need bytes (Ok model) → length (model_parts model).terms ≤ most_terms
 few_terms bytes need model e = (limits_stated need (cut_of e.text) (model_parts model) e.reads).terms
 
--- all that is owed behind a model that ends with the part is added by it
+-- all that is owed after a model that ends with the part is added by it
 pub owed_adds : (bytes part before after : List ℕ) (old : ModelText) (ended : Option Status) → IsInModel bytes old →
     IsOwed (watch_due (bytes ++ part)) before after ended → AddsDue watch_due bytes part before after
 owed_adds bytes part before after old ended h o = (

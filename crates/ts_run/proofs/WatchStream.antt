@@ -124,7 +124,7 @@ marks : (ls : List (List ℕ)) → AllByRecursion IsFinished ls → IsMarked ls 
 marks [] each = inr refl
 marks (l ∷ ls) each = mark_on l ls (is_separator l) refl each (marks ls each.1)
 
--- what bytes owe behind the model, and the reply to them
+-- what bytes owe after the model, and the reply to them
 
 module _ (text front : List ℕ) (ends : EndsModel text front) (whole : AreWhole front) where
   pub due_behind_model : (more : List ℕ) → watch_due (front ++ more) ≡ due_on (model_reading Values text) (whole_lines more)
@@ -133,7 +133,7 @@ module _ (text front : List ℕ) (ends : EndsModel text front) (whole : AreWhole
   pub reply_behind_model : (more : List ℕ) → watch_reply (front ++ more) ≡ reply_on (model_reading Values text) more
   reply_behind_model more = ap (λ (h : Halves). reply_on (model_reading Values h.model) (unwrap_or h.rest [])) (ends more)
 
--- a stream behind its model, or in it
+-- a stream after its model, or in it
 
 record IsBehind (bytes : List ℕ) : Type 0 where
   text : List ℕ

@@ -1,4 +1,4 @@
--- What a command wrote of a model goes to `verify`: behind the bytes of the model, after a line `%%`.
+-- What a command wrote of a model goes to `verify`: after the bytes of the model, after a line `%%`.
 use Rattle.std.specs.Prelude.{◌≡◌, ℕ, ◌+◌, ◌≤◌, List, [], ◌∷◌, ◌++◌, codes, length, if◌then◌else◌}
 use Rattle.ts_base.specs.Limits.{most_verify_bytes}
 use Rattle.ts_base.specs.Words.{is_lf}
@@ -16,11 +16,11 @@ end_line [] = []
 end_line (b ∷ []) = if is_lf b then b ∷ [] else b ∷ 10 ∷ []
 end_line (b ∷ c ∷ bs) = b ∷ end_line (c ∷ bs)
 
--- the text behind the bytes of a model, after a line `%%`
+-- the text after the bytes of a model, after a line `%%`
 abbrev pub verify_input : List ℕ → List ℕ → List ℕ
 verify_input bytes text = end_line bytes ++ (codes "%%\n" ++ text)
 
--- the text of a certificate goes to `verify` behind the bytes of its model: it is read as the same certificate; the two
+-- the text of a certificate goes to `verify` after the bytes of its model: it is read as the same certificate; the two
 -- together fit the limit, state that model, have that certificate and are answered `accepted`; and the claim is true
 pub record GoesToVerify (m : ModelParts) (bytes : List ℕ) (c : Cert) : Type 0 where
   pub read : ReadsAs (certificate_text c) c

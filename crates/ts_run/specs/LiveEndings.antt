@@ -12,13 +12,13 @@ abbrev pub TookLines : List ℕ → Option (List ℕ) → Option (List ℕ) → 
 TookLines text before after = (front : List ℕ) × IsFront front text × IsLines front × (after ≡ taken_more before front)
 
 -- how a call ends that gives this reply line by line: the text was taken whole and the status is the reply's; or a
--- write failed, and a front of the text was taken; or there was no memory, and whole lines of it were taken
+-- write failed, and a prefix of the text was taken; or there was no memory, and whole lines of it were taken
 abbrev pub EndsInLines : Reply → Option (List ℕ) → Option (List ℕ) → Status → Type 0
 EndsInLines reply before after WriteFault = Prefix reply.text before after
 EndsInLines reply before after Memory = TookLines reply.text before after
 EndsInLines reply before after status = (after ≡ taken_more before reply.text) × (reply.status ≡ status)
 
--- the first bytes within the limit, behind which more stand
+-- the first bytes within the limit, after which more stand
 pub record IsOver (limit : ℕ) (bytes first : List ℕ) : Type 0 where
   pub longer : limit < length bytes
   pub front : first ≡ take limit bytes
@@ -40,7 +40,7 @@ pub record StreamGiven (limit : ℕ) (Is : List ℕ → Reply → Type 0) (due :
   pub is : StreamReplies limit Is due bytes reply
   pub ends : EndsInLines reply before after status
 
--- a read failed behind these bytes, which had not ended the stream: what they owe was to be given, then `fault read`
+-- a read failed after these bytes, which had not ended the stream: what they owe was to be given, then `fault read`
 pub record StreamBroken (limit : ℕ) (due : List ℕ → Due) (first : List ℕ) (before after : Option (List ℕ))
     (status : Status) : Type 0 where
   pub within : length first ≤ limit

@@ -8,12 +8,12 @@ use Rattle.ts_run.specs.Well.{WritesWell}
 use Rattle.ts_run.specs.declared.status.Status.{Status}
 use Rattle.ts_run.specs.declared.status.Status.TheVariants.{WriteFault, Memory}
 
--- behind what bytes owed, what they and a piece behind them owe was taken
+-- after what bytes owed, what they and a piece after them owe was taken
 abbrev pub TakesDue : (List ℕ → Due) → List ℕ → List ℕ → Option (List ℕ) → Option (List ℕ) → Type 0
 TakesDue due bytes piece before after =
     (more : List ℕ) × ((due (bytes ++ piece)).text ≡ (due bytes).text ++ more) × (after ≡ taken_more before more)
 
--- a front of it was taken, which is so
+-- a prefix of it was taken, which is so
 abbrev pub TakesFront : (List ℕ → Type 0) → (List ℕ → Due) → List ℕ → List ℕ → Option (List ℕ) → Option (List ℕ) →
     Type 0
 TakesFront Is due bytes piece before after =
@@ -24,7 +24,7 @@ abbrev pub IsAny : List ℕ → Type 0
 IsAny text = Unit {0}
 
 -- how a piece stops a call: what is owed was taken whole, and the piece has ended the stream; or a write failed, or
--- there was no memory, and a front of it was taken, without memory whole lines
+-- there was no memory, and a prefix of it was taken, without memory whole lines
 abbrev pub Stops : (List ℕ → Due) → List ℕ → List ℕ → Option (List ℕ) → Option (List ℕ) → Status → Type 0
 Stops due bytes piece before after WriteFault = TakesFront IsAny due bytes piece before after
 Stops due bytes piece before after Memory = TakesFront IsLines due bytes piece before after
@@ -37,7 +37,7 @@ Serves due bytes piece before after None =
     TakesDue due bytes piece before after × ((due (bytes ++ piece)).ended ≡ None)
 Serves due bytes piece before after (Some status) = Stops due bytes piece before after status
 
--- the end of the input: behind what was owed, the rest of the reply was given
+-- the end of the input: after what was owed, the rest of the reply was given
 abbrev pub EndsBehind : Due → Reply → Option (List ℕ) → Option (List ℕ) → Status → Type 0
 EndsBehind due reply before after status =
     (r : Reply) × (reply ≡ record { text = due.text ++ r.text; status = r.status }) × EndsInLines r before after status

@@ -99,7 +99,7 @@ OnReading (Ok m) next r = next m r
 abbrev pub OnModel : Need → List ℕ → (ModelParts → Reply → Type 0) → Reply → Type 0
 OnModel need text next r = OnReading (model_reading need text) next r
 
--- the refusal of a series, or on with it; no reading is want of memory
+-- the refusal of a series, or on with it; no reading is lack of memory
 abbrev pub OnSeries : Result (List ℤ) SeriesStop → (List ℤ → Reply → Type 0) → Reply → Type 0
 OnSeries (Ok xs) next r = next xs r
 OnSeries (Err NoSeries) next r = r ≡ refused_series (codes "shape")

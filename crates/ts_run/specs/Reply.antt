@@ -20,7 +20,7 @@ pub record Reply : Type 0 where
   pub text : List ℕ
   pub status : Status
 
--- a reply behind a text
+-- a reply after a text
 abbrev pub behind_text : List ℕ → Reply → Reply
 behind_text text r = record { text = text ++ r.text; status = r.status }
 
@@ -48,7 +48,7 @@ TellsNoFault WriteFault = ⊥
 TellsNoFault _ = Unit {0}
 
 -- how a call ends that has this reply to give: what the sink took before and after it, and the call's status. The text
--- was taken whole and the status is the reply's; or a write failed, and a front of the text was taken; or there was no
+-- was taken whole and the status is the reply's; or a write failed, and a prefix of the text was taken; or there was no
 -- memory, and nothing was taken.
 abbrev pub Ends : Reply → Option (List ℕ) → Option (List ℕ) → Status → Type 0
 Ends reply before after WriteFault = Prefix reply.text before after

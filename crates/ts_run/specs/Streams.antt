@@ -1,4 +1,4 @@
--- What bytes of a stream owe that have come, before it is known what comes behind them.
+-- What bytes of a stream owe that have come, before it is known what comes after them.
 use Rattle.std.specs.Prelude.{ℕ, ◌≡◌, ◌⊎◌, List, [], ◌∷◌, ◌++◌, Option, None, Some}
 use Rattle.ts_run.specs.Reply.{ComesOfInput, Reply}
 use Rattle.ts_run.specs.declared.status.Status.{Status}
@@ -20,7 +20,7 @@ IsFront front text = (rest : List ℕ) × (text ≡ front ++ rest)
 abbrev pub IsLines : List ℕ → Type 0
 IsLines text = (text ≡ []) ⊎ ((front : List ℕ) × (text ≡ front ++ 10 ∷ []))
 
--- `due` of bytes, and the `reply` to an input that ends behind them, are those of one stream: what was owed stays owed,
+-- `due` of bytes, and the `reply` to an input that ends after them, are those of one stream: what was owed stays owed,
 -- in whole lines, whatever comes; once the stream has ended, nothing that comes counts, and what is owed is the reply
 pub record IsStream (due : List ℕ → Due) (reply : List ℕ → Reply) : Type 0 where
   pub opens : due [] ≡ nothing_due
@@ -32,12 +32,12 @@ pub record IsStream (due : List ℕ → Due) (reply : List ℕ → Reply) : Type
       reply bytes ≡ record { text = (due bytes).text; status = status }
   pub input : (bytes : List ℕ) → ComesOfInput (reply bytes).status
 
--- behind the text of what these bytes owed, this text leads to what they and a piece behind them owe
+-- after the text of what these bytes owed, this text leads to what they and a piece after them owe
 abbrev pub AddsDue : (List ℕ → Due) → List ℕ → List ℕ → List ℕ → List ℕ → Type 0
 AddsDue due bytes piece before after =
     (more : List ℕ) × (after ≡ before ++ more) × ((due (bytes ++ piece)).text ≡ (due bytes).text ++ more)
 
--- a front of it was put behind the text, up to a line's end, where memory was wanting
+-- a prefix of it was put after the text, up to a line's end, where memory was missing
 pub record AddsLines (due : List ℕ → Due) (bytes piece before after : List ℕ) : Type 0 where
   pub more : List ℕ
   pub put : after ≡ before ++ more

@@ -1,4 +1,4 @@
--- What `watch` writes: behind a model and a line `%%`, one reading a line; after each the values of the model's terms
+-- What `watch` writes: after a model and a line `%%`, one reading a line; after each the values of the model's terms
 -- on all readings so far.
 use Rattle.std.specs.Prelude.{ℕ, ◌+◌, ℤ, nat_lt, List, [], ◌∷◌, ◌++◌, codes, length, map, if◌then◌else◌}
 use Rattle.std.specs.Prelude.{Option, Some, None, option_map, Result, Ok, Err}
@@ -35,11 +35,11 @@ only_value (word ∷ other ∷ words) = None
 abbrev pub words_give : List Piece → Option (List ℤ)
 words_give words = if is_skipped words then Some [] else only_value words
 
--- the same of a line without its end, which is bad where it isn't text
+-- what a line without its end gives, which is bad if it isn't text
 abbrev pub line_gives : List ℕ → Option (List ℤ)
 line_gives line = if is_text line then words_give (words_of line) else None
 
--- readings, and the number of the bad line behind them, where one came
+-- readings, and the number of the bad line after them, where one came
 pub record Readings : Type 0 where
   pub values : List ℤ
   pub bad : Option ℕ
@@ -50,7 +50,7 @@ bad_at number = record { values = []; bad = Some number }
 abbrev pub after_values : List ℤ → Readings → Readings
 after_values values r = record { values = values ++ r.values; bad = r.bad }
 
--- what a line gives behind so many readings, with those of the lines behind it: a reading beyond the last that may come
+-- what a line gives after so many readings, with those of the lines after it: a reading beyond the last that may come
 -- makes its line bad
 abbrev pub line_onto : ℕ → ℕ → Option (List ℤ) → (ℕ → Readings) → Readings
 line_onto count number None next = bad_at number
@@ -58,7 +58,7 @@ line_onto count number (Some []) next = next count
 line_onto count number (Some (v ∷ vs)) next =
     if nat_lt count longest then after_values (v ∷ []) (next (count + 1)) else bad_at number
 
--- the readings of lines, the first of which has this number, behind so many others, up to the first bad line
+-- the readings of lines, the first of which has this number, after so many others, up to the first bad line
 abbrev pub readings_from : ℕ → ℕ → List (List ℕ) → Readings
 readings_from count number [] = record { values = []; bad = None }
 readings_from count number (line ∷ lines) =
@@ -94,11 +94,11 @@ last_line (Some number) count = refused_reading number
 abbrev pub values_reply : ModelParts → Readings → Reply
 values_reply m r = behind_text (values_lines m [] r.values) (last_line r.bad (length r.values))
 
--- the same by their text
+-- the reply to the readings in a text
 abbrev pub readings_reply : ModelParts → List ℕ → Reply
 readings_reply m text = values_reply m (readings_of text)
 
--- the refusal of the model or of a window in it, or the reply to the readings in the text behind it
+-- the refusal of the model or of a window in it, or the reply to the readings in the text after it
 abbrev pub reply_on : Result ModelParts (ℕ × ModelKind) → List ℕ → Reply
 reply_on (Err bad) text = refused_model bad.0 bad.1
 reply_on (Ok m) text = if has_window m then refused_window else readings_reply m text
@@ -120,14 +120,14 @@ end_due (Some number) = Some Refused
 abbrev pub values_due : ModelParts → Readings → Due
 values_due m r = record { text = values_lines m [] r.values ++ refusal_due r.bad; ended = end_due r.bad }
 
--- the same of a text of whole lines, and of any bytes behind a model
+-- the same of a text of whole lines, and of any bytes after a model
 abbrev pub lines_due : ModelParts → List ℕ → Due
 lines_due m text = values_due m (readings_of text)
 
 abbrev pub readings_due : ModelParts → List ℕ → Due
 readings_due m bytes = lines_due m (whole_lines bytes)
 
--- a refusal is owed, and nothing behind it
+-- a refusal is owed, and nothing after it
 abbrev pub refused_due : Reply → Due
 refused_due r = record { text = r.text; ended = Some Refused }
 

@@ -38,7 +38,7 @@ abbrev pub IsCellReading : Reading → Type 0
 IsCellReading (Value v) = IsCellValue v
 IsCellReading _ = Unit {0}
 
--- behind so many readings a line that gives this is read so: as one of them, where one more may come
+-- after so many readings a line that gives this is read so: as one of them, where one more may come
 abbrev pub IsNext : ℕ → Option (List ℤ) → Reading → Type 0
 IsNext count gives Skipped = gives ≡ Some []
 IsNext count gives (Value v) = (gives ≡ Some (v ∷ [])) × (count < longest) × IsCellValue v
@@ -68,7 +68,7 @@ pub record AreReadings (m : ModelParts) (bytes : List ℕ) (r : ReadingsText) : 
   pub free : IsUnfinished line
   pub short : IsShort line r.line
 
--- readings of whole lines were taken, and what is kept stands for the line behind them
+-- readings of whole lines were taken, and what is kept stands for the line after them
 pub record MayRead (r : ReadingsText) : Type 0 where
   pub model : ModelParts
   pub text : List ℕ
@@ -116,16 +116,16 @@ abbrev pub EndsIn : List ℕ → Stage → Type 0
 EndsIn bytes (InModel t) = AtLine IsMark bytes t × (t.need ≡ Values)
 EndsIn bytes (InReadings r) = ⊥
 
--- the refusal of the model was put behind the text
+-- the refusal of the model was put after the text
 abbrev pub IsRefusedBy : ModelStop → List ℕ → List ℕ → Status → Type 0
 IsRefusedBy (RefusedModel line kind) before after status =
     (after ≡ before ++ (refused_model line kind).text) × (status ≡ Refused)
 IsRefusedBy NoMemory before after status = ⊥
 
--- the whole reply was put behind the text
+-- the whole reply was put after the text
 abbrev pub IsPut : Reply → List ℕ → List ℕ → Status → Type 0
 IsPut r before after status = (after ≡ before ++ r.text) × (status ≡ r.status)
 
--- all that is owed was put behind the text
+-- all that is owed was put after the text
 abbrev pub IsOwed : Due → List ℕ → List ℕ → Option Status → Type 0
 IsOwed due before after ended = (after ≡ before ++ due.text) × (due.ended ≡ ended)

@@ -5,8 +5,8 @@ use Rattle.ts_run.specs.Reply.{EndsWritten, TellsNoFault}
 use Rattle.ts_run.specs.declared.status.Status.{Status}
 use Rattle.ts_run.specs.declared.status.Status.TheVariants.{ReadFault, WriteFault}
 
--- a fault of the source is told only where one was counted, and none is passed over; nothing is read after it, nor once
--- the end of the source was found
+-- a fault of the source is reported only where one was counted, and none is passed over; nothing is read after it, nor
+-- once the end of the source was found
 pub record ReadsWell {S : Type 0} (faults : S → ℕ) (is_broken : S → Bool) (ends : S → ℕ) (old new : S)
     (status : Status) : Type 0 where
   pub fault : status ≡ ReadFault → Rose (faults old) (faults new)
@@ -16,7 +16,8 @@ pub record ReadsWell {S : Type 0} (faults : S → ℕ) (is_broken : S → Bool) 
   pub calm : TellsNoFault status → faults new ≡ faults old
   pub later : faults old ≤ faults new
 
--- a fault of the sink is told only where one was counted, and none is passed over; what was written is finished, once
+-- a fault of the sink is reported only where one was counted, and none is passed over; what was written is finished
+-- once
 pub record WritesWell {K : Type 0} (faults : K → ℕ) (is_broken is_finished : K → Bool) (finishes : K → ℕ)
     (old new : K) (status : Status) : Type 0 where
   pub fault : status ≡ WriteFault → Rose (faults old) (faults new)

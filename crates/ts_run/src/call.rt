@@ -31,8 +31,8 @@ use ts_base::{Memory, NeverSink, NeverSource, ReadStop, Sink, Source, take_all};
 /// read failed, or the end of the source was found.
 ///
 /// `watch` takes its input as a stream: what a piece of it owes is written before the next is read. So a failed read,
-/// or a byte more than the limit, is told behind what was owed before, and after `Memory` the sink has taken whole
-/// lines.
+/// or a byte more than the limit, is reported after what was owed before, and after `Memory` the sink has taken
+/// whole lines.
 pub fn run<S: Source, K: Sink>(
     alloc: Global,
     words: &Vec<String>,
@@ -53,7 +53,7 @@ pub fn run<S: Source, K: Sink>(
     }
 }
 
-/// The call over a source and a sink that never fail: no fault is told.
+/// The call over a source and a sink that never fail: no fault is reported.
 pub fn run_over_never(
     alloc: Global,
     words: &Vec<String>,

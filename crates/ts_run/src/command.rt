@@ -68,7 +68,7 @@ impl Command {
     }
 }
 
-/// The command with this name and these words behind it.
+/// The command with this name and these words after it.
 fn named(name: &str, rest: &[String]) -> Option<Command>
     ensures { result ≡ command_of (name.now ∷ words_in rest.now) }
 {
@@ -150,7 +150,7 @@ fn budget_in(words: &[String]) -> Option<Budget>
     }
 }
 
-/// The budget in the words behind this one, which has to be `--budget`.
+/// The budget in the words after this one, which has to be `--budget`.
 fn budget_behind(word: &str, rest: &[String]) -> Option<Budget>
     ensures { result ≡ budget_of (word.now ∷ words_in rest.now) }
 {

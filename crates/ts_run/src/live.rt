@@ -10,8 +10,8 @@ use ts_base::Memory;
 
 /// Takes the bytes of a stream in pieces and says what they owe.
 ///
-/// `due` is what bytes owe before it is known what comes behind them, and `reply` the whole reply to an input that ends
-/// behind them: both are functions of all bytes alone, however they are cut. `came` says which bytes have come.
+/// `due` is what bytes owe before it is known what comes after them, and `reply` the whole reply to an input that ends
+/// after them: both are functions of all bytes alone, however they are cut. `came` says which bytes have come.
 pub trait Live {
     ghost due: { List ℕ → Due };
 
@@ -19,10 +19,10 @@ pub trait Live {
 
     ghost came: { List ℕ → Self → Type 0 };
 
-    /// Takes the next piece, puts what it adds to the text that is owed behind `text`, and says with which status it
+    /// Takes the next piece, appends what it adds to the text that is owed to `text`, and says with which status it
     /// has ended the stream, where it has: then nothing more is asked. All bytes together are fewer than 4,000,000,000.
     ///
-    /// Without memory whole lines of what is owed were put behind the text, and nothing more is asked either.
+    /// Without memory whole lines of what is owed were put after the text, and nothing more is asked either.
     fn take(&mut self, piece: &[u8], text: &mut Vec<u8>) -> Result<Option<Status>, Memory>
         requires some { (bytes : List ℕ) × came bytes self.old × (length bytes + length piece.now < too_many) }
         ensures put { OnOk result ((bytes : List ℕ) → came bytes self.old →
@@ -34,7 +34,7 @@ pub trait Live {
         ensures lines { OnErr result ((bytes : List ℕ) → came bytes self.old →
             AddsLines due bytes piece.now text.old.items text.new.items) };
 
-    /// Ends the stream behind the bytes that came, puts the rest of the reply behind `text`, and says its status.
+    /// Ends the stream after the bytes that came, appends the rest of the reply to `text`, and says its status.
     fn finish(&mut self, text: &mut Vec<u8>) -> Result<Status, Memory>
         requires some { (bytes : List ℕ) × came bytes self.old × (length bytes < too_many) }
         ensures put { IfOk result (λ status. (bytes : List ℕ) → came bytes self.old →

@@ -64,7 +64,7 @@ impl ReadingsText {
         })
     }
 
-    /// Takes bytes of one line, whose last may be its LF, and puts the line that this adds behind the text; says the
+    /// Takes bytes of one line, whose last may be its LF, and appends the line that this adds to the text; says the
     /// status where the line is bad. After `Memory` the text is as it was.
     pub(crate) fn take(&mut self, part: &[u8], text: &mut Vec<u8>) -> Result<Option<Status>, Memory>
         requires part { IsPart part.now }
@@ -85,7 +85,7 @@ impl ReadingsText {
         }
     }
 
-    /// The end of the input: a last line without an LF is read, and the last line is put behind the text.
+    /// The end of the input: a last line without an LF is read, and the last line is put after the text.
     pub(crate) fn end(&mut self, text: &mut Vec<u8>) -> Result<Status, Memory>
         requires some { (m : ModelParts) × (bytes : List ℕ) × AreReadings m bytes self.old
             × (length bytes < too_many) }
@@ -191,7 +191,7 @@ fn push_values(text: &mut Vec<u8>, monitor: &Monitor) -> Result<(), Memory>
     }
 }
 
-/// The same, which after `Memory` may leave a front of the line.
+/// The number of readings and the values, put after the text; after `Memory` a prefix of the line may be left there.
 fn push_line(text: &mut Vec<u8>, monitor: &Monitor) -> Result<(), Memory>
     requires some { 1 ≤ monitor.now.count }
     requires few { length monitor.now.terms ≤ most_terms }
@@ -226,7 +226,7 @@ fn push_spaced(text: &mut Vec<u8>, value: Ext) -> Result<(), Memory>
     Ok(())
 }
 
-/// Puts the refusal of the line with this number behind the text, which is as it was after `Memory`.
+/// Appends the refusal of the line with this number to the text, which is as it was after `Memory`.
 fn push_refusal(alloc: Global, text: &mut Vec<u8>, number: u32) -> Result<Status, Memory>
     ensures put { IfOk result (λ status.
         (text.new.items ≡ text.old.items ++ (refused_reading number).text) × (status ≡ Status.Refused)) }
@@ -242,7 +242,7 @@ fn refused_reading(alloc: Global, number: u32) -> Result<Reply, Memory>
     line_reply(alloc, b"refused reading line ", number, Status::Refused)
 }
 
-/// Puts the end, with the number of readings, behind the text.
+/// Appends the end, with the number of readings, to the text.
 pub(crate) fn push_end(alloc: Global, text: &mut Vec<u8>, count: u32) -> Result<Status, Memory>
     ensures { IfOk result (λ status.
         (text.new.items ≡ text.old.items ++ (end_of count).text) × (status ≡ Status.Done)) }

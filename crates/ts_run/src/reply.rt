@@ -13,7 +13,7 @@ pub struct Reply {
     pub status: Status,
 }
 
-/// Why a command goes no further: a refusal, already in words, or want of memory.
+/// Why a command goes no further: a refusal, already in words, or lack of memory.
 #[derive(Debug, Drop)]
 pub enum Stop {
     Refused(Reply),
@@ -40,7 +40,7 @@ pub fn or_refusal(reply: Result<Reply, Stop>) -> Result<Reply, Memory>
     }
 }
 
-/// Puts the text of a reply behind this one, which stays as it is after `Memory`; the status is the reply's.
+/// Appends the text of a reply to this one, which stays as it is after `Memory`; the status is the reply's.
 pub fn push_reply(text: &mut Vec<u8>, reply: &Reply) -> Result<Status, Memory>
     ensures ok { IfOk result (λ status.
         (text.new.items ≡ text.old.items ++ reply.now.text.items) × (status ≡ reply.now.status)) }

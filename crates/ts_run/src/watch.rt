@@ -23,7 +23,7 @@ use ts_model::{Model, ModelStop, ModelText, Need};
 pub(crate) enum Stage {
     /// Its model hasn't ended.
     InModel(ModelText),
-    /// Behind the line `%%`.
+    /// After the line `%%`.
     InReadings(ReadingsText),
 }
 
@@ -134,7 +134,7 @@ impl Live for Watching {
     }
 }
 
-/// Puts the end without readings behind the text, or the refusal of a window.
+/// Appends the end without readings to the text, or the refusal of a window.
 fn push_none(alloc: Global, text: &mut Vec<u8>, model: &Model) -> Result<Status, Memory>
     ensures { IfOk result (λ status.
         IsPut (reply_on (Ok (model_parts model.now)) []) text.old.items text.new.items status) }
@@ -146,7 +146,7 @@ fn push_none(alloc: Global, text: &mut Vec<u8>, model: &Model) -> Result<Status,
     }
 }
 
-/// Puts the refusal of a window behind the text, which is as it was after `Memory`.
+/// Appends the refusal of a window to the text, which is as it was after `Memory`.
 fn push_window(alloc: Global, text: &mut Vec<u8>) -> Result<Status, Memory>
     ensures put { IfOk result (λ status. IsPut refusal text.old.items text.new.items status) }
     ensures kept { OnErr result (text.new.items ≡ text.old.items) }
@@ -154,7 +154,7 @@ fn push_window(alloc: Global, text: &mut Vec<u8>) -> Result<Status, Memory>
     push_reply(text, &refused_window(alloc)?)
 }
 
-/// Puts the refusal of the model behind the text, which is as it was after `Memory`.
+/// Appends the refusal of the model to the text, which is as it was after `Memory`.
 fn push_stop(alloc: Global, text: &mut Vec<u8>, stop: ModelStop) -> Result<Status, Memory>
     ensures put { IfOk result (λ status. IsRefusedBy stop text.old.items text.new.items status) }
     ensures kept { OnErr result (text.new.items ≡ text.old.items) }

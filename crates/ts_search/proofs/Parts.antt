@@ -118,7 +118,7 @@ drop_not_alone m s k v j b x i d e =
 
 -- the boxes that wait
 
--- each box's series come before all series of the boxes behind it
+-- each box's series come before all series of the boxes after it
 abbrev pub InOrder : List Box → Type 0
 InOrder [] = Unit {0}
 InOrder (b ∷ w) = ((x y : List ℤ) → InBox x b → InSome w y → IsBefore x y) × InOrder w

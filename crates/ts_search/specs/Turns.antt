@@ -38,7 +38,7 @@ found_after c found (Wide k t) (Worse p) = found
 found_after c found form Yes = found
 found_after c found form Unsearched = found
 
--- after a line on the box b, before those behind it
+-- after a line on the box b, before those after it
 abbrev pub after : Contest → State → Box → List Box → TreeLine → State
 after c s b behind l = record {
   lines = s.lines ++ l ∷ [];

@@ -3,7 +3,7 @@
 //! The layer above may rely on this: the certificate of `solve` names the first best series of a model, or that none
 //! meets, or what a spent budget leaves; that of `list` has the first series that meet, in order. Both are accepted,
 //! keep the rules of lean trees, and are the only ones that do: nothing in a tree is left to choose. No other answer
-//! comes but want of memory.
+//! comes but lack of memory.
 //!
 //! One pure function says the line of a box; the code asks its tests one after the other and stops at the first that
 //! holds. A box that waits is a mark on a trail and one change. The tests share the rows of hulls of a box, and those

@@ -1,4 +1,4 @@
--- A byte that adds nothing to a line, whatever comes behind.
+-- A byte that adds nothing to a line, whatever comes after.
 use Rattle.std.proofs.Common.{◌≡◌, ℕ, ◌<◌, ◌≤◌, Bool, true, false, cond, not, ◌&&◌, Some, None, List, [], ◌∷◌, ◌++◌, length, map, refl, sym, ap, subst, ◌∙◌, arith, append_assoc, append-nil, length-append, ◌==◌, eqb-true}
 use Rattle.std.proofs.lemmas.List.Folds.{list_all-append}
 use Rattle.std.proofs.lemmas.Bool.{and_parts, not-true, and_left}
@@ -55,7 +55,7 @@ ending_behind (b ∷ bs) more none =
     let n = and_parts (not (is_lf b)) (has_no_lf bs) none in
     ap (λ v. cond v (b ∷ bs ++ more) (ending is_lf (bs ++ more))) (not-true (is_lf b) n.0) ∙ ending_behind bs more n.1
 
--- the lines of bytes without an LF and of what comes behind
+-- the lines of bytes without an LF and of what comes after
 pub cut_behind : (b : ℕ) (bs more : List ℕ) → has_no_lf (b ∷ bs) ≡ true →
     lines_of ((b ∷ bs) ++ more) ≡ cut_by ((b ∷ bs) ++ front is_lf more) (ending is_lf more)
 cut_behind b bs more none =
@@ -122,7 +122,7 @@ alike_gist k more b plain same =
     gist_is (k ++ more) ∙ ap (λ v. gist_by v (word_heads (k ++ more))) (text_kept k more b plain) ∙ ap (gist_by (is_text (k ++ b ∷ more))) same.words
     ∙ sym (gist_is (k ++ b ∷ more))
 
--- a blank behind a blank
+-- a blank after a blank
 pub blank_adds : (k : List ℕ) (b : ℕ) → is_text k ≡ true → EndsBlank k → is_plain b ≡ true → is_blank b ≡ true → AddsNothing k b
 blank_adds k b text ends plain blank = text_adds k b some text plain (λ more. alike_gist k more b plain (alike more)) where
   some : 0 < length k
@@ -166,7 +166,7 @@ comment_adds (c ∷ cs) b text is plain = text_adds (c ∷ cs) b (omega arith) t
 not_text : (line : List ℕ) → is_text line ≡ false → gist line ≡ None
 not_text line bad = gist_is line ∙ ap (λ v. gist_by v (word_heads line)) bad
 
--- bytes behind one that isn't text
+-- bytes after one that isn't text
 bad_on : (k more : List ℕ) → is_text k ≡ false → gist (k ++ more) ≡ None
 bad_on k more bad = not_text (k ++ more) (list_all-append is_plain k more ∙ and_left (is_text k) (is_text more) bad)
 
@@ -186,7 +186,7 @@ bad_ended : (k more : List ℕ) → is_text (without_cr k) ≡ false → gist (w
 bad_ended k [] bad = not_text (without_cr (k ++ [])) (ap (λ (x : List ℕ). is_text (without_cr x)) (append-nil k) ∙ bad)
 bad_ended k (x ∷ xs) bad = ap gist (cr_behind k x xs) ∙ bad_on k (without_cr (x ∷ xs)) (bad_before_cr k bad)
 
--- any byte behind one that isn't text
+-- any byte after one that isn't text
 pub bad_adds : (k : List ℕ) (b : ℕ) → has_no_lf k ≡ true → is_text (without_cr k) ≡ false → is_lf b ≡ false → AddsNothing k b
 bad_adds [] b none bad other = cc
 bad_adds (c ∷ cs) b none bad other = same_adds (c ∷ cs) b (omega arith) none other (record {

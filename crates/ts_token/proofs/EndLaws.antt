@@ -147,7 +147,7 @@ rest_strict : (rest : List ℕ) → 0 < length rest → 0 < length (strict_lines
 rest_strict [] some = absurd (omega arith)
 rest_strict (b ∷ bs) some = some_strict b bs
 
--- where bytes stand behind it, it ends with its LF
+-- where bytes stand after it, it ends with its LF
 pub ended_before : (text line rest : List ℕ) → strict_lines text ≡ line ∷ strict_lines rest → 0 < length rest → AreEnded line
 ended_before [] line rest cut some = absurd (omega (arith, ap length cut))
 ended_before (b ∷ bs) line rest cut some =

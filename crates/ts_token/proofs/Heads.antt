@@ -1,4 +1,4 @@
--- The first bytes of the words of a line, where bytes are left out behind others.
+-- The first bytes of the words of a line, where bytes after others are left out.
 use Rattle.std.proofs.Common.{◌≡◌, ℕ, ◌+◌, ◌≤◌, Bool, true, false, cond, Some, None, List, [], ◌∷◌, ◌++◌, length, take, refl, sym, ap, ◌∙◌, arith, take-take, ◌==◌}
 use Rattle.std.proofs.lemmas.List.{take-append-le}
 use Rattle.std.specs.Prelude.{Option}
@@ -38,7 +38,7 @@ pub heads_are : (column : ℕ) (line : List ℕ) → heads (words_from column li
 heads_are column [] = refl
 heads_are column (b ∷ bs) = heads_by b column (is_blank b) (stops_here bs) (words_from (column + 1) bs) (word_heads bs) (heads_are (column + 1) bs)
 
--- both lines go on alike behind whatever stands before
+-- both lines go on alike after whatever stands before
 pub record AreAlike (x y : List ℕ) : Type 0 where
   pub words : word_heads x ≡ word_heads y
   pub stops : stops_here x ≡ stops_here y
@@ -142,7 +142,7 @@ comment_step b bs rest true e is later =
     (onto_head b (word_heads (bs ++ rest)))))) e ∙ later is
 comment_step b bs rest false e is later = ap passed_over (first_head b (bs ++ rest) e) ∙ is
 
--- a comment is skipped, whatever comes behind
+-- a comment is skipped, whatever comes after
 pub comment_passed : (k rest : List ℕ) → is_comment k ≡ true → passed_over (word_heads (k ++ rest)) ≡ true
 comment_passed [] rest is = cc
 comment_passed (b ∷ bs) rest is = comment_step b bs rest (is_blank b) refl is (comment_passed bs rest)

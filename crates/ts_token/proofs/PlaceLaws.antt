@@ -143,7 +143,7 @@ by_text p k b at lf = go (b == 13) refl where
   go true e = cr_at k b (is_text_at p k at) lf e
   go false e = on_plain (is_plain b) refl e
 
--- behind a byte that isn't text, where it is a CR and no LF follows
+-- after a byte that isn't text, where it is a CR and no LF follows
 behind_cr : (k : List ℕ) (b : ℕ) → has_no_lf k ≡ true → is_text k ≡ false → is_lf b ≡ false → IsAt NotText (k ++ b ∷ [])
 behind_cr k b none bad lf = (
   no_lf_more k b none lf,

@@ -8,7 +8,7 @@ use Rattle.ts_token.specs.Gist.{most_kept}
 use Rattle.ts_token.specs.Steps.{is_solid, without_cr}
 use Rattle.ts_token.specs.Text.{is_blank, is_plain, is_text, words_of}
 
--- behind a blank; None where it adds nothing
+-- after a blank; None where it adds nothing
 abbrev pub blank_place : Place → Option Place
 blank_place Start = Some Margin
 blank_place Margin = None
@@ -19,7 +19,7 @@ blank_place Return = None
 blank_place NotText = None
 blank_place Ended = None
 
--- behind another byte of text
+-- after another byte of text
 abbrev pub solid_place : Place → ℕ → Option Place
 solid_place Start b = if b == 35 then Some Comment else Some (Word 1)
 solid_place Margin b = if b == 35 then Some Comment else Some (Word 1)
@@ -30,7 +30,7 @@ solid_place Return b = None
 solid_place NotText b = None
 solid_place Ended b = None
 
--- behind a byte that is no LF, where the line was text so far
+-- after a byte that is no LF, where the line was text so far
 abbrev pub text_place : Place → ℕ → Option Place
 text_place p b =
     if b == 13 then Some Return
@@ -48,7 +48,7 @@ place_on Return b = Some NotText
 place_on NotText b = None
 place_on Ended b = Some Ended
 
--- behind one more byte; None where it adds nothing
+-- after one more byte; None where it adds nothing
 abbrev pub place_after : Place → ℕ → Option Place
 place_after p b = if b == 10 then Some Ended else place_on p b
 
@@ -82,7 +82,7 @@ IsAt Return bytes = (list_all (λ b. not (is_lf b)) bytes ≡ true) × (is_text 
 IsAt NotText bytes = (list_all (λ b. not (is_lf b)) bytes ≡ true) × (is_text (without_cr bytes) ≡ false)
 IsAt Ended bytes = Unit {0}
 
--- of bytes with an LF so few are kept: 65 a word, a few more, and all behind the LF
+-- of bytes with an LF so few are kept: 65 a word, a few more, and all after the LF
 pub record IsSmallEnded (line : List ℕ) (kept : ℕ) : Type 0 where
   pub front : List ℕ
   pub rest : List ℕ

@@ -6,14 +6,14 @@ use Rattle.ts_token.specs.Places.{IsAt, IsSmallAt}
 use Rattle.ts_token.specs.Slices.{after_lf}
 use Rattle.ts_token.specs.Text.{words_of}
 
--- what is kept stands for the line, whatever bytes come behind both
+-- what is kept stands for the line, whatever bytes come after both
 pub record IsShort (line : List ℕ) (s : ShortLine) : Type 0 where
   pub stands : (more : List ℕ) → StandsFor (s.kept.items ++ more) (line ++ more)
   pub place : IsAt s.place s.kept.items
   pub small : IsSmallAt s.place line (length s.kept.items)
   pub few : length s.kept.items ≤ length line
 
--- no more bytes are kept of a line: 65 a word, where its LF counts as a byte of a word, and all behind the LF
+-- no more bytes are kept of a line: 65 a word, where its LF counts as a byte of a word, and all after the LF
 abbrev pub most_of : List ℕ → ℕ
 most_of line = 65 * length (words_of line) + 4 + length (after_lf line)
 

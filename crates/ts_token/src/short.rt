@@ -21,23 +21,23 @@ const MOST_KEPT: usize = 64;
 pub(crate) enum Place {
     /// Before the first byte.
     Start,
-    /// Behind blanks alone.
+    /// After blanks alone.
     Margin,
-    /// Behind a blank that follows a word.
+    /// After a blank that follows a word.
     Blank,
     /// In a word, of which so many bytes are kept.
     Word(usize),
     /// In a comment.
     Comment,
-    /// Behind a CR, which is text only right before the LF.
+    /// After a CR, which is text only right before the LF.
     Return,
-    /// Behind a byte that isn't text.
+    /// After a byte that isn't text.
     NotText,
-    /// Behind the LF.
+    /// After the LF.
     Ended,
 }
 
-/// The place behind a blank; None where the blank adds nothing.
+/// The place after a blank; None where the blank adds nothing.
 fn blank_place(place: Place) -> Option<Place>
     ensures { result ≡ blank_place place }
 {
@@ -48,7 +48,7 @@ fn blank_place(place: Place) -> Option<Place>
     }
 }
 
-/// The place behind another byte of text; None where the byte adds nothing.
+/// The place after another byte of text; None where the byte adds nothing.
 fn solid_place(place: Place, byte: u8) -> Option<Place>
     ensures { result ≡ solid_place place byte }
 {
@@ -72,7 +72,7 @@ fn solid_place(place: Place, byte: u8) -> Option<Place>
     }
 }
 
-/// The place of a line that was text so far behind a byte that is no LF; None where the byte adds nothing.
+/// The place of a line that was text so far after a byte that is no LF; None where the byte adds nothing.
 fn text_place(place: Place, byte: u8) -> Option<Place>
     ensures { result ≡ text_place place byte }
 {
@@ -89,7 +89,7 @@ fn text_place(place: Place, byte: u8) -> Option<Place>
     }
 }
 
-/// The place behind one more byte; None where the byte adds nothing.
+/// The place after one more byte; None where the byte adds nothing.
 fn place_after(place: Place, byte: u8) -> Option<Place>
     ensures { result ≡ place_after place byte }
 {

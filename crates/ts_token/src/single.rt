@@ -31,7 +31,7 @@ pub fn single_word<'a>(line: &'a [u8]) -> Single<'a>
     single_of(bare)
 }
 
-/// The same of a line without its end.
+/// What a line without its end has for its only word.
 fn single_of<'a>(line: &'a [u8]) -> Single<'a>
     requires { length line.now < too_many }
     ensures { IsSingle result line.now }

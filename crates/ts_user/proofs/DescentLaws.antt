@@ -42,7 +42,7 @@ module _ (most : ℕ) (word : List ℕ) where
   byte_some n x y some within h =
       ap (λ (o : Option Levels). ended most (read_onto most (take (n - 1) word) o)) h ∙ sym (byte_more n x some within)
 
-  -- `)`, behind which a level ends
+  -- `)`, after which a level ends
   close_more : (n : ℕ) (x : Within) (outer : List Within) → 0 < n → n ≤ length word → get_or word (n - 1) 0 ≡ 41 →
       read_on most (take (n - 1) word) (record { inner = blank_level; outer = x ∷ outer }) ≡ read_on most (take n word) (record { inner = x; outer = outer })
   close_more n x outer some within is =

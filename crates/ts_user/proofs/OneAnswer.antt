@@ -1,4 +1,4 @@
--- Of the answers but for want of memory only one can be right. And the row of signatures is that of turns.
+-- Of the answers but for lack of memory only one can be right. And the row of signatures is that of turns.
 use Rattle.std.specs.Prelude.{◌≡◌, ◌⊎◌, ℕ, zero, suc, ◌+◌, ◌<◌, ◌≤◌, List, [], ◌∷◌, ◌++◌, length}
 use Rattle.std.proofs.Common.{sym, ◌∙◌, ap, subst, inl, inr, arith, ⊎_elim}
 use Rattle.std.proofs.lemmas.Bool.{false≢true}

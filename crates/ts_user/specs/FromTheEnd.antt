@@ -40,8 +40,8 @@ bounded_alt most None s = None
 bounded_alt most (Some r) None = None
 bounded_alt most (Some r) (Some s) = bounded most (Alt r s)
 
--- what has been read of a bracket level: the sign that repeats the atom to come, the sequence behind it up to the next
--- `|`, and the choices behind that
+-- what has been read of a bracket level: the sign that repeats the atom to come, the sequence after it up to the next
+-- `|`, and the choices after that
 pub record Within : Type 0 where
   pub repeat : Option Repeat
   pub sequence : Option (Option Shape)

@@ -46,7 +46,7 @@ fn read_byte(alloc: Global, byte: u8, level: Level) -> Result<Option<Level>, Mem
     }
 }
 
-/// The level after the bracketed atom whose `)` stands behind the first bytes, so many of them; None where it is none.
+/// The level after the bracketed atom whose `)` stands after the first bytes, so many of them; None where it is none.
 #[cycle(descent)]
 fn read_bracketed(
     alloc: Global,

@@ -9,7 +9,7 @@ ghost use Rattle.ts_user.specs.FirstReached.{IsFirst};
 ghost use Rattle.ts_user.specs.BuildAnswers.{IsListing, IsRefused, IsTooMany};
 
 /// A plan, a refusal and `TooMany` exclude one another, and there is one signature that can be refused. So each answer,
-/// want of memory aside, comes exactly where its meaning holds.
+/// lack of memory aside, comes exactly where its meaning holds.
 pub fn one_answer()
     ensures listed_refused { (s : Subject Shape) (xs : List (PlainConfiguration Shape)) (w : List Letter) →
         IsListing s xs → IsRefused s w → ⊥ }

@@ -9,8 +9,8 @@ use crate::symbol::Repeat;
 use std::alloc::Global;
 use ts_base::Memory;
 
-/// What has been read of a bracket level: the sign that repeats the atom to come, the sequence behind it up to the next
-/// `|`, and the choices behind that.
+/// What has been read of a bracket level: the sign that repeats the atom to come, the sequence after it up to the next
+/// `|`, and the choices after that.
 #[derive(Drop)]
 pub(crate) struct Level {
     pub repeat: Option<Repeat>,

@@ -63,7 +63,7 @@ impl From<Memory> for UserStop {
     }
 }
 
-/// Why a line adds nothing: the first kind that holds of it, or want of memory.
+/// Why a line adds nothing: the first kind that holds of it, or lack of memory.
 #[derive(Clone, Copy)]
 pub(crate) enum LineStop {
     Bad(UserKind),

@@ -85,14 +85,14 @@ fn is_listed(table: &[Knowledge], letter: Letter, residual: u32) -> bool
     look_up(table, residual).next(letter) as usize <= table.len()
 }
 
-/// The same of each entry.
+/// Whether each entry has a residual that is listed after the letter, or has no word there.
 fn each_listed(table: &[Knowledge], letter: Letter, live: &[Live]) -> bool
     ensures { result ≡ list_all (λ e. is_listed table.now letter e.residual) live.now }
 {
     live.iter().all(|e| is_listed(table, letter, e.residual))
 }
 
-/// The same of each entry, and of the start at the sign now read.
+/// Whether that holds of each entry, and of the start at the sign now read.
 fn all_listed(table: &[Knowledge], letter: Letter, live: &[Live]) -> bool
     ensures { result ≡ (list_all (λ e. is_listed table.now letter e.residual) live.now
         && is_listed table.now letter 0) }

@@ -9,7 +9,7 @@ use ts_base::Memory;
 use ts_domain::Boxed;
 
 /// The first number that a cell of even numbers up to 8,190 loses, the step to the next one, how many it loses, and a
-/// number that stays: from the low end, from the high end, from the middle on, and with a gap behind each.
+/// number that stays: from the low end, from the high end, from the middle on, and with a gap after each.
 static LOSSES: [(i64, i64, u32, i64); 4] = [
     (0, 2, 4095, 8190),
     (8190, -2, 4095, 0),

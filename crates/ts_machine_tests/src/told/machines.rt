@@ -1,6 +1,6 @@
 //! Small automata as texts, and boxes under them: tables of three cells; rows that sweeps make, and rows that have to
 //! be made over all pairs; spans at the last cell, of all its values and of each one, with other cells before and
-//! behind the window, and on one series.
+//! after the window, and on one series.
 
 ghost use Rattle.std.specs.Prelude.{◌≡◌, ℤ, IfOk, List, None};
 ghost use Rattle.ts_bound.specs.TermSpans.{LooksIn, automata_of};
@@ -98,7 +98,7 @@ finish max R sub C E same
 end
 ";
 
-/// Each expression is a front, a tail, or a tail behind two fronts.
+/// Each expression is a front, a tail, or a tail after two fronts.
 static TAILS: &str = "forward
 state s free
 state t free

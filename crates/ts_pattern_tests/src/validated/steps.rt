@@ -89,7 +89,7 @@ static PLANS: [Small; 12] = [
         configurations: "0 21l 11l 02l",
         refused: Some((1, Equal, ">")),
     },
-    // A held start that goes on behind the end of its range is Loose: that leads to the one with the least number.
+    // A held start that goes on after the end of its range is Loose: that leads to the one with the least number.
     Small {
         pattern: ">=*.",
         b: 0,

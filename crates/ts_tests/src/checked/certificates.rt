@@ -15,7 +15,7 @@ static PEAKS: &str = "cells 3\ndomain 0..1\nterm c = count peak\nobjective c\n";
 /// A line of a certificate for `PEAKS`; before it so many boxes wait, and this line was the first that broke its rule.
 type Step = (&'static str, u64, Option<u32>);
 
-/// Lines, how many boxes wait behind them, the first line that broke its rule, and the verdict.
+/// Lines, how many boxes wait after them, the first line that broke its rule, and the verdict.
 type Steps = (&'static [Step], u64, Option<u32>, Verdict);
 
 /// A proof that the best series has one peak; and a split with an empty side, which breaks its rule and stays the first
@@ -104,7 +104,7 @@ fn first_other(checker: &mut Checker, rows: &[Step]) -> Result<Option<usize>, Me
     Ok(None)
 }
 
-/// The first row before whose line the checker tells something else; their number where it does behind them.
+/// The first row before whose line the checker tells something else; their number where it does after them.
 fn first_wrong_step(alloc: Global, steps: &Steps) -> Result<Option<usize>, Memory> {
     let &(rows, waiting, broken, verdict) = steps;
     let mut checker = checker_of(alloc, peaks())?;

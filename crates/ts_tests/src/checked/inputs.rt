@@ -8,7 +8,7 @@ use ts_base::Memory;
 use ts_checker::{Verdict, Verifier, VerifyEnd};
 use ts_model::ModelKind;
 
-/// What stands before a word that comes 1,500 times, the word, what stands behind it, how the input ends, and the line
+/// What stands before a word that comes 1,500 times, the word, what stands after it, how the input ends, and the line
 /// that has failed before its end.
 type Input = (
     &'static str,
@@ -27,7 +27,7 @@ static INPUTS: [Input; 17] = [
         VerifyEnd::Verdict(Accepted),
         None,
     ),
-    // a line that breaks its rule, and one against the grammar behind it
+    // a line that breaks its rule, and one against the grammar after it
     (
         "cells 1\ndomain 0..1\n \t%% \r\ngenerate 1\nbudget 0\nopen\nopen\nend 0 2\n",
         "",
@@ -58,7 +58,7 @@ static INPUTS: [Input; 17] = [
         VerifyEnd::Verdict(Refused(4)),
         None,
     ),
-    // the certificate is empty, behind `%%` and without it
+    // the certificate is empty, after `%%` and without it
     (
         "cells 1\ndomain 0..1\n%%",
         "",
@@ -73,7 +73,7 @@ static INPUTS: [Input; 17] = [
         VerifyEnd::Verdict(Refused(1)),
         None,
     ),
-    // the model is refused, whatever stands behind it
+    // the model is refused, whatever stands after it
     (
         "cells 3\ncells 3\n%%\nmaximise\n",
         "",
@@ -161,7 +161,7 @@ static INPUTS: [Input; 17] = [
     ),
 ];
 
-/// Pieces of one input of `verify`, and the line that has failed behind each.
+/// Pieces of one input of `verify`, and the line that has failed after each.
 static FEEDS: [(&str, Option<u32>); 9] = [
     ("cells 1\ndomain 0..1\n", None),
     ("%%", None),
@@ -267,7 +267,7 @@ fn pieces(rt: HostRuntime) {
     }
 }
 
-/// The first row behind whose piece another line has failed, by a new verifier.
+/// The first row after whose piece another line has failed, by a new verifier.
 fn first_other(verifier: &mut Verifier) -> Result<Option<usize>, Memory>
     requires calm { verifier.old.wanting ≡ false }
     requires none { verifier.old.count ≡ 0 }

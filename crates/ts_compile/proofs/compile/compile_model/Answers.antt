@@ -38,7 +38,7 @@ loop-k-preserved c =
           ∙ ap (λ w. map window_of machines ++ w ∷ []) c.in_ok-compile_over.ensures.window),
     )
 
--- behind the last term all are there
+-- after the last term all are there
 pub returns : goal.returns
 returns c =
     let m = c.args.m.now in

@@ -22,7 +22,7 @@ loop-k-preserved c =
     taken (values_on (model_parts c.args.model.now) c.args.series.now) c.loop-k.values.items c.push.new.self.items c.loop-k.k c.in_ok-value_by.field-0 found
     c.loop-k.invariant c.in_ok-push.ensures.items
 
--- behind the last term all are there
+-- after the last term all are there
 pub returns : goal.returns
 returns c =
     let m = c.args.model.now in
