@@ -1,6 +1,7 @@
 -- How the trail keeps the earlier boxes: each step has the place of the cell that was changed, and its set before or
 -- the number that it lost.
 use Rattle.std.specs.Prelude.{◌<◌, ℤ, List, [], ◌∷◌, length, get_or, set, Contains}
+use Rattle.ts_base.specs.Limits.{too_many}
 use Rattle.ts_domain.specs.declared.boxed.Step.{Step}
 use Rattle.ts_domain.specs.declared.boxed.Back.{Back}
 use Rattle.ts_domain.specs.declared.boxed.Back.TheVariants.{Whole, One}
@@ -34,6 +35,6 @@ earlier_boxes (s ∷ later) cells = first_box (s ∷ later) cells ∷ earlier_bo
 
 -- each step is at a cell and leads back to a domain, and the cells have domains
 unfoldable pub StepsFit : List Step → List (List ℤ) → Type 0
-StepsFit [] cells = (length cells < 4000000000) × IsBox cells
+StepsFit [] cells = (length cells < too_many) × IsBox cells
 StepsFit (s ∷ later) cells =
     (s.cell < length cells) × BackFits s.back (get_or (first_box later cells) s.cell []) × StepsFit later cells

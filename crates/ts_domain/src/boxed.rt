@@ -1,6 +1,7 @@
 //! One domain per cell, with a trail that leads back to every earlier box.
 
 ghost use Rattle.std.specs.Prelude.{◌≡◌, ◌≢◌, ◌-◌, ◌<◌, ◌≤◌, [], length, IfOk, OnOk, OnErr, Contains};
+ghost use Rattle.ts_base.specs.Limits.{too_many};
 ghost use Rattle.ts_domain.specs.Kept.{values_kept, values_up_to, values_above, values_without};
 ghost use Rattle.ts_domain.specs.BoxSeries.{IsBox, IsCell, cell_of, box_with, back_to};
 ghost use Rattle.ts_domain.specs.Trail.{before, BackFits};
@@ -50,7 +51,7 @@ impl Model for Boxed {
 impl Boxed {
     /// The box of these domains, with no box before it.
     pub fn new(alloc: Global, cells: &[Domain]) -> Result<Boxed, Memory>
-        requires { length cells.now < 4000000000 }
+        requires { length cells.now < too_many }
         ensures { IfOk result (λ b. b ≡ record { earlier = []; present = cells.now }) }
     {
         let mut copies = Vec::new(alloc);

@@ -2,6 +2,7 @@
 
 ghost use Rattle.std.specs.Prelude.{◌≡◌, ◌↔◌, ◌<◌, ◌≤◌, Contains, IfOk, IsTrue, OnOk, None, length, map};
 ghost use Rattle.std.specs.List.{AllByRecursion};
+ghost use Rattle.ts_base.specs.Limits.{too_many};
 ghost use Rattle.ts_bound.specs.TermSpans.{LooksIn, automata_of, term_span};
 ghost use Rattle.ts_domain.specs.BoxSeries.{IsCell, cell_of};
 ghost use Rattle.ts_filter.specs.Boxes.{Box, only};
@@ -280,8 +281,8 @@ impl<'a> AllTables<'a> {
         cells: &Boxed,
         kept: &KeptCells,
     ) -> Result<Option<Removal>, Memory>
-        requires machines { length self.old.machines < 4000000000 }
-        requires requirements { length requirements.now < 4000000000 }
+        requires machines { length self.old.machines < too_many }
+        requires requirements { length requirements.now < too_many }
         requires terms { AllByRecursion (λ r. r.term < length self.old.machines) requirements.now }
         requires looks { AllByRecursion (λ a. LooksIn a cells.now.present) self.old.machines }
         requires kept { AreKept requirements.now (spans_of self.old.machines) cells.now.present kept.now }

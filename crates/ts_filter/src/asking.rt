@@ -1,6 +1,7 @@
 //! Questions to the tables of one term. None compares cells: the box has been brought before.
 
 ghost use Rattle.std.specs.Prelude.{◌≡◌, ◌↔◌, ◌<◌, Contains, IfOk, IsTrue, None, length, option_map};
+ghost use Rattle.ts_base.specs.Limits.{too_many};
 ghost use Rattle.ts_bound.specs.TermSpans.{LooksIn, term_span};
 ghost use Rattle.ts_domain.specs.BoxSeries.{IsCell, cell_of};
 ghost use Rattle.ts_filter.specs.Boxes.{only};
@@ -111,7 +112,7 @@ impl<'a> AllTables<'a> {
         cells: &Boxed,
     ) -> Result<Option<Removal>, Memory>
         requires there { term < length self.old.machines }
-        requires requirements { length requirements.now < 4000000000 }
+        requires requirements { length requirements.now < too_many }
         requires looks { OfTerm self.old.machines term (λ a. LooksIn a cells.now.present) }
         requires kept { OfTerm self.old.machines term
             (λ a. IsKeptIfKnown requirements.now term a cells.now.present (option_map (λ t. t.now) kept)) }

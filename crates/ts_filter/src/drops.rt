@@ -2,6 +2,7 @@
 
 ghost use Rattle.std.specs.Prelude.{◌≡◌, ◌+◌, ◌<◌, ◌≤◌, ℕ, IfOk, length, map, option_map};
 ghost use Rattle.std.specs.List.{AllByRecursion};
+ghost use Rattle.ts_base.specs.Limits.{too_many};
 ghost use Rattle.ts_bound.specs.TermSpans.{IsUsable, LooksIn, automata_of};
 ghost use Rattle.ts_domain.specs.Values.{IsDomain};
 ghost use Rattle.ts_filter.specs.Drops.{IsFirstDrop, IsFirstOf};
@@ -44,8 +45,8 @@ pub fn next_drop(
     requirements: &[Require],
     cells: &Boxed,
 ) -> Result<Option<Removal>, Memory>
-    requires machines { length machines.now < 4000000000 }
-    requires requirements { length requirements.now < 4000000000 }
+    requires machines { length machines.now < too_many }
+    requires requirements { length requirements.now < too_many }
     requires terms { AllByRecursion (λ r. r.term < length machines.now) requirements.now }
     requires looks { AllByRecursion (λ m. LooksIn (automata_of m) cells.now.present) machines.now }
     ensures { IfOk result
@@ -77,7 +78,7 @@ fn drop_of_term(
     last: u32,
     cells: &Boxed,
 ) -> Result<Option<Removal>, Memory>
-    requires requirements { length requirements.now < 4000000000 }
+    requires requirements { length requirements.now < too_many }
     requires looks { LooksIn (automata_of machine.now) cells.now.present }
     ensures { IfOk result (λ found. IsFirstOf
         (IsDropUpTo requirements.now term (automata_of machine.now) cells.now.present last) found) }

@@ -3,6 +3,7 @@
 ghost use Rattle.std.specs.Prelude.{◌≡◌, ◌↔◌, ◌<◌, ◌≤◌, Contains, IfOk, IfSome, IsTrue, MatchOption, None, Some};
 ghost use Rattle.std.specs.Prelude.{false, filter, length, nat_eq};
 ghost use Rattle.std.specs.List.{position};
+ghost use Rattle.ts_base.specs.Limits.{too_many};
 ghost use Rattle.ts_base.specs.declared.span.Span.{Span};
 ghost use Rattle.ts_filter.specs.Excluded.{Refutes};
 ghost use Rattle.ts_filter.specs.TermDrops.{AreAmong, IsFirstRefuting, NoneFrom, RefutesSome};
@@ -23,7 +24,7 @@ pub(crate) struct TermRequirements<'a> {
     pub(crate) term: u32,
     pub(crate) first: usize,
     pub(crate) end: usize,
-    pub(crate) ghost few: { length all.now < 4000000000 },
+    pub(crate) ghost few: { length all.now < too_many },
     pub(crate) ghost is_first: { position (λ r. nat_eq r.term term) all.now ≡ Some first },
     pub(crate) ghost some: { first < end },
     pub(crate) ghost within: { end ≤ length all.now },
@@ -33,7 +34,7 @@ pub(crate) struct TermRequirements<'a> {
 impl<'a> TermRequirements<'a> {
     /// Those of the term among all; none where the term has none.
     pub(crate) fn among(all: &'a [Require], term: u32) -> Option<TermRequirements<'a>>
-        requires { length all.now < 4000000000 }
+        requires { length all.now < too_many }
         ensures { MatchOption result (position (λ r. nat_eq r.term term) all.now ≡ None)
             (λ own. (own.all.now ≡ all.now) × (own.term ≡ term)) }
     {

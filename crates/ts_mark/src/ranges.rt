@@ -1,6 +1,7 @@
 //! The e-ranges of the occurrences.
 
 ghost use Rattle.std.specs.Prelude.{◌≡◌, ◌≤◌, ◌<◌, length, IfOk};
+ghost use Rattle.ts_base.specs.Limits.{too_many};
 ghost use Rattle.ts_base.specs.Signature.{signature_of};
 ghost use Rattle.ts_regex.specs.Shape.{shape_of};
 ghost use Rattle.ts_pattern.specs.AllOccurrences.{occurrence_ranges};
@@ -24,7 +25,7 @@ pub fn marks(alloc: Global, v: &Validated, a: u8, series: &[i64]) -> Result<Vec<
     requires trim { a ≡ (pattern_of v.now).a }
     requires small { a ≤ 1 }
     requires some { 1 ≤ length series.now }
-    requires few { length series.now < 4000000000 }
+    requires few { length series.now < too_many }
     ensures ranges { IfOk result (λ ranges. ranges.items ≡ occurrence_ranges
         (shape_of (pattern_of v.now).regex) (pattern_of v.now).b a (signature_of series.now)) }
     ensures few { IfOk result (λ ranges. length ranges.items ≤ length series.now) }

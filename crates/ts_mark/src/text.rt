@@ -2,6 +2,7 @@
 
 ghost use Rattle.std.specs.Prelude.{◌≡◌, ◌+◌, ◌-◌, ◌++◌, ◌<◌, ◌≤◌, length, drop, IfOk, OnOk};
 ghost use Rattle.std.specs.Fmt.{decimal};
+ghost use Rattle.ts_base.specs.Limits.{too_many};
 ghost use Rattle.ts_mark.specs.Rising.{AreRising};
 ghost use Rattle.ts_mark.specs.MarkText.{count_line, range_line, range_lines, mark_line, more_numbers, joined, cell_words, marks_text};
 ghost use Rattle.ts_mark.specs.Walk.{ended, begun, counted};
@@ -12,7 +13,7 @@ use ts_base::{Memory, Range, push_number};
 /// How many ranges there are, the cells of each, and for each of so many cells the numbers of the ranges that hold it,
 /// from 1, rising and joined by `+`, or 0. Each range begins and ends after the one before, as those of `marks` do.
 pub fn marks_text(alloc: Global, cells: u32, ranges: &[Range]) -> Result<Vec<u8>, Memory>
-    requires few { length ranges.now < 4000000000 }
+    requires few { length ranges.now < too_many }
     requires rising { AreRising ranges.now }
     ensures { IfOk result (λ text. text.items ≡ marks_text cells ranges.now) }
 {
@@ -58,7 +59,7 @@ fn push_range(text: &mut Vec<u8>, range: Range) -> Result<(), Memory>
 
 /// The line with a word for each cell.
 fn push_marks(text: &mut Vec<u8>, cells: u32, ranges: &[Range]) -> Result<(), Memory>
-    requires few { length ranges.now < 4000000000 }
+    requires few { length ranges.now < too_many }
     requires rising { AreRising ranges.now }
     ensures { OnOk result (text.new.items ≡ text.old.items ++ mark_line cells ranges.now) }
 {
@@ -71,7 +72,7 @@ fn push_marks(text: &mut Vec<u8>, cells: u32, ranges: &[Range]) -> Result<(), Me
 /// A word for each cell. Both ends of the ranges rise: those that ended before the cell stand before all others, and
 /// those that begin after it after, so that two places go on with the cells.
 fn push_cells(text: &mut Vec<u8>, cells: u32, ranges: &[Range]) -> Result<(), Memory>
-    requires few { length ranges.now < 4000000000 }
+    requires few { length ranges.now < too_many }
     requires rising { AreRising ranges.now }
     ensures { OnOk result (text.new.items ≡ text.old.items ++ cell_words ranges.now 1 cells) }
 {
@@ -114,7 +115,7 @@ fn past_begun(ranges: &[Range], from: usize, cell: u32) -> usize
 
 /// The numbers of the ranges from one place to before another, joined by `+`; 0 where there is none.
 fn push_joined(text: &mut Vec<u8>, first: usize, behind: usize) -> Result<(), Memory>
-    requires few { behind < 4000000000 }
+    requires few { behind < too_many }
     ensures { OnOk result (text.new.items ≡ text.old.items ++ joined (counted (first + 1) (behind - first))) }
 {
     if first >= behind {
@@ -127,7 +128,7 @@ fn push_joined(text: &mut Vec<u8>, first: usize, behind: usize) -> Result<(), Me
 
 /// The numbers of the ranges from one place to before another, each after a `+`.
 fn push_more(text: &mut Vec<u8>, first: usize, behind: usize) -> Result<(), Memory>
-    requires few { behind < 4000000000 }
+    requires few { behind < too_many }
     ensures { OnOk result (text.new.items ≡ text.old.items ++ more_numbers (counted (first + 1) (behind - first))) }
 {
     for k in first..behind {

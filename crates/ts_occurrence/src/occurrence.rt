@@ -5,6 +5,7 @@
 //! occurrences stand on a stack, and no two places are ever compared.
 
 ghost use Rattle.std.specs.Prelude.{◌≡◌, ◌<◌, ◌≤◌, ◌+◌, length, IfOk, IfSome};
+ghost use Rattle.ts_base.specs.Limits.{too_many};
 ghost use Rattle.ts_regex.specs.Shape.{shape_of};
 ghost use Rattle.std.specs.List.{AllByRecursion};
 ghost use Rattle.ts_pattern.specs.Trims.{FitsTrims};
@@ -24,7 +25,7 @@ use ts_regex::normal;
 /// of the signs `i` to `j` (Global Constraint Catalog, Volume II). Each word of the pattern with a letter has at least
 /// `b + a` letters, so that each e-range has a cell and lies in the series.
 pub fn occurrences(alloc: Global, p: &Pattern, w: &[Letter]) -> Result<Vec<Range>, Memory>
-    requires few { length w.now < 4000000000 }
+    requires few { length w.now < too_many }
     requires fits { FitsTrims (shape_of p.now.regex) p.now.b p.now.a }
     ensures exact { IfOk result (λ v. v.items ≡ occurrence_ranges (shape_of p.now.regex) p.now.b p.now.a w.now) }
     ensures listed { IfOk result (λ v. AreRanges (shape_of p.now.regex) p.now.b p.now.a w.now v.items) }
@@ -35,7 +36,7 @@ pub fn occurrences(alloc: Global, p: &Pattern, w: &[Letter]) -> Result<Vec<Range
 
 /// The e-ranges of the maximal matches, by the definition over matches.
 fn maximal_matches(alloc: Global, p: &Pattern, w: &[Letter]) -> Result<Vec<Range>, Memory>
-    requires { length w.now < 4000000000 }
+    requires { length w.now < too_many }
     ensures { IfOk result (λ v. AreRanges (shape_of p.now.regex) p.now.b p.now.a w.now v.items) }
 {
     let mut residuals = Residuals::of(alloc, normal(alloc, &p.regex)?)?;
@@ -51,7 +52,7 @@ fn maximal_matches(alloc: Global, p: &Pattern, w: &[Letter]) -> Result<Vec<Range
 
 /// Notes the match from `ending`, the least start of one that ends at the sign number `read + 1`.
 fn note(found: &mut Vec<Range>, ending: Option<u32>, read: u32, b: u8, a: u8) -> Result<(), Memory>
-    requires few { read < 4000000000 }
+    requires few { read < too_many }
     requires earlier { IfSome ending (λ start. start ≤ read) }
     ensures { IfOk result (λ _. IsNoted b a read ending found.old.items found.new.items) }
 {

@@ -2,6 +2,7 @@
 
 ghost use Rattle.std.specs.Prelude.{◌≡◌, ◌<◌, ◌≤◌, ◌++◌, length, IfOk};
 ghost use Rattle.std.specs.Option.{option_to_list};
+ghost use Rattle.ts_base.specs.Limits.{too_many};
 ghost use Rattle.ts_transducer.specs.Rows.{rows_of};
 ghost use Rattle.ts_transducer.specs.Decode.{arrow_at, decode};
 
@@ -14,7 +15,7 @@ use ts_base::{Letter, Memory, Range};
 /// The ranges that the transducer decodes from a signature of fewer than 4,000,000,000 letters, in cells counted from
 /// 1, in the order in which they are complete. `a` is 1 where an occurrence leaves its last cell out, else 0.
 pub fn decoded(alloc: Global, t: &Transducer, a: u8, w: &[Letter]) -> Result<Vec<Range>, Memory>
-    requires few { length w.now < 4000000000 }
+    requires few { length w.now < too_many }
     requires trim { a ≤ 1 }
     ensures { IfOk result (λ v. v.items ≡ decode (rows_of t.now) a w.now) }
 {

@@ -1,6 +1,7 @@
 //! The decoder: from phase letters to the ranges of cells that the occurrences leave.
 
 ghost use Rattle.std.specs.Prelude.{◌≡◌, ◌<◌, ◌≤◌, ◌+◌, ◌-◌};
+ghost use Rattle.ts_base.specs.Limits.{too_many};
 ghost use Rattle.ts_transducer.specs.Decode.{begins, ends_at, start_after, held_after, emitted_at};
 
 use crate::row::Phase;
@@ -29,7 +30,7 @@ impl Decoder {
     /// 1. `a` is 1 where an occurrence leaves its last cell out, else 0.
     pub fn step(&mut self, k: u32, phase: Phase, a: u8) -> Option<Range>
         requires sign { 1 ≤ k }
-        requires few { k ≤ 4000000000 }
+        requires few { k ≤ too_many }
         requires trim { a ≤ 1 }
         ensures emitted { result ≡ emitted_at phase a k self.old.start self.old.held }
         ensures start { self.new.start ≡ start_after phase k self.old.start }
@@ -68,7 +69,7 @@ impl Decoder {
 
     /// The range of an occurrence that ends at the sign `k` now read: from the start that is kept, else from `k`.
     fn found_at(&self, k: u32, a: u8) -> Range
-        requires few { k ≤ 4000000000 }
+        requires few { k ≤ too_many }
         requires trim { a ≤ 1 }
         ensures first { result.first ≡ begins k self.now.start }
         ensures last { result.last ≡ k + 1 - a }

@@ -4,6 +4,7 @@
 //! leaves of a part is worked out once. So no residual is written out before the plan is.
 
 ghost use Rattle.std.specs.Prelude.{◌≡◌, ◌<◌, ◌++◌, [], ◌∷◌, IfOk, IfSome, Option, length, map, slice_set, slice_get};
+ghost use Rattle.ts_base.specs.Limits.{too_many};
 ghost use Rattle.ts_regex.specs.Shape.{shape_of};
 ghost use Rattle.ts_regex.specs.NormalForm.{residual, normal_form};
 ghost use Rattle.ts_pattern.specs.Entries.{shapes};
@@ -141,7 +142,7 @@ impl Book {
     fn number(&mut self, form: usize, p: &Pattern) -> Result<u32, Memory>
         requires book { IsBook (shape_of p.now.regex) self.old }
         requires there { form < length (shapes_in self.old.forms) }
-        requires room { length self.old.residuals.items < 4000000000 }
+        requires room { length self.old.residuals.items < too_many }
         ensures book { IfOk result (λ _. IsBook (shape_of p.now.regex) self.new) }
         ensures found { IfOk result (λ j. IsFound (residuals_of self.old) (residuals_of self.new)
             (form_at (shapes_in self.old.forms) form) j) }
@@ -163,7 +164,7 @@ impl Book {
     ) -> Result<Option<u32>, Memory>
         requires book { IsBook (shape_of p.now.regex) self.old }
         requires there { i < length self.old.residuals.items }
-        requires room { length self.old.residuals.items < 4000000000 }
+        requires room { length self.old.residuals.items < too_many }
         ensures book { IfOk result (λ _. IsBook (shape_of p.now.regex) self.new) }
         ensures after { IfOk result (λ o. IsAfter (residuals_of self.old) (residuals_of self.new)
             (residual (shape_at (residuals_of self.old) i) letter) o) }
@@ -185,7 +186,7 @@ impl Book {
     ) -> Result<Option<u32>, Memory>
         requires book { IsBook (shape_of p.now.regex) self.old }
         requires there { i < length self.old.residuals.items }
-        requires room { length self.old.residuals.items < 4000000000 }
+        requires room { length self.old.residuals.items < too_many }
         ensures book { IfOk result (λ _. IsBook (shape_of p.now.regex) self.new) }
         ensures after { IfOk result (λ o. IsAfter (residuals_of self.old) (residuals_of self.new)
             (residual (shape_at (residuals_of self.old) i) letter) o) }

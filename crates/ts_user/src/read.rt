@@ -1,6 +1,7 @@
 //! The pattern of a text, or the first bad line with the first kind that holds of it.
 
 ghost use Rattle.std.specs.Prelude.{◌≡◌, ◌<◌, IfOk};
+ghost use Rattle.ts_base.specs.Limits.{too_many};
 ghost use Rattle.ts_token.specs.Views.{rows, cut_view};
 ghost use Rattle.ts_user.specs.Stated.{nothing};
 ghost use Rattle.ts_user.specs.PatternReading.{is_alone, read_rows, pattern_in};
@@ -43,7 +44,7 @@ fn is_alone(tokens: &Tokens) -> bool
 /// bad, at the number of its lines plus 1, with the first of `Missing`, `ShortWord` and `Typing` that holds. `Memory`
 /// may come in the place of any answer.
 pub fn read_pattern(alloc: Global, tokens: &Tokens<'_>) -> Result<UserPattern, UserStop>
-    requires { tokens.now.count < 4000000000 }
+    requires { tokens.now.count < too_many }
     ensures exact { Reads result (pattern_in (cut_view tokens.now)) }
     ensures first { Tells (cut_view tokens.now) result }
     ensures fit { IfOk result IsFit }

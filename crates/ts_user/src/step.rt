@@ -1,6 +1,7 @@
 //! The step of a configuration on a letter, and whether the checks hold of it.
 
 ghost use Rattle.std.specs.Prelude.{◌≡◌, ◌+◌, ◌<◌, [], IfOk, length};
+ghost use Rattle.ts_base.specs.Limits.{too_many};
 ghost use Rattle.ts_regex.specs.Shape.{shape_of};
 ghost use Rattle.ts_regex.specs.NormalForm.{normal_form};
 ghost use Rattle.ts_pattern.specs.Closed.{retag_entries};
@@ -62,7 +63,7 @@ fn add_left(
     requires there { entry.residual < length book.old.residuals.items }
     requires listed { AreListed (residuals_of book.old) kept.old.live.items }
     requires found { HasNumbers kept.old }
-    requires room { length book.old.residuals.items < 4000000000 }
+    requires room { length book.old.residuals.items < too_many }
     ensures book { IfOk result (λ _. IsBook (shape_of p.now.regex) book.new) }
     ensures added { IfOk result (λ _.
         IsAdded (residuals_of book.old) (residuals_of book.new) letter entry kept.old.live.items
@@ -88,7 +89,7 @@ fn left(
 ) -> Result<Vec<Live>, Memory>
     requires book { IsBook (shape_of p.now.regex) book.old }
     requires listed { AreListed (residuals_of book.old) live.now }
-    requires room { length book.old.residuals.items + length live.now < 4000000000 }
+    requires room { length book.old.residuals.items + length live.now < too_many }
     ensures book { IfOk result (λ _. IsBook (shape_of p.now.regex) book.new) }
     ensures left { IfOk result (λ v. IsLeft (residuals_of book.old) (residuals_of book.new)
         (normal_form (shape_of p.now.regex)) p.now.b letter live.now v.items) }
@@ -138,7 +139,7 @@ pub fn make_step(
 ) -> Result<Step, Memory>
     requires book { IsBook (shape_of p.now.regex) book.old }
     requires listed { AreListed (residuals_of book.old) here.now.live.items }
-    requires room { length book.old.residuals.items + length here.now.live.items < 4000000000 }
+    requires room { length book.old.residuals.items + length here.now.live.items < too_many }
     ensures book { IfOk result (λ _. IsBook (shape_of p.now.regex) book.new) }
     ensures step { IfOk result (λ k. IsStep (unplanned_of rows.now p.now) (residuals_of book.old)
         (residuals_of book.new) here.now letter k.to k.agrees) }

@@ -1,6 +1,7 @@
 //! The whole test: a transducer that a plan shows to find the occurrences of a pattern.
 
 ghost use Rattle.std.specs.Prelude.{◌≡◌, ◌<◌, IsTrue, IfOk, IfErr, OnOk, length};
+ghost use Rattle.ts_base.specs.Limits.{too_many};
 ghost use Rattle.ts_regex.specs.Shape.{shape_of};
 ghost use Rattle.ts_transducer.specs.Rows.{rows_of};
 ghost use Rattle.ts_pattern.specs.Closed.{IsClosed};
@@ -22,8 +23,8 @@ use ts_transducer::{Row, Transducer};
 /// Whether each reached configuration of the plan meets the checks.
 fn check(alloc: Global, rows: &[Row], p: &Pattern, plan: &Plan) -> Result<(), ValidateStop>
     requires fits { IsTrue (is_plan_of (shape_of p.now.regex) (plain_plan plan.now)) }
-    requires residuals { length plan.now.residuals.items < 4000000000 }
-    requires configurations { length plan.now.configurations.items < 4000000000 }
+    requires residuals { length plan.now.residuals.items < too_many }
+    requires configurations { length plan.now.configurations.items < too_many }
     ensures closed { OnOk result (IsClosed (against rows.now p.now plan.now)) }
     ensures refused { IfErr result (λ e. IsStop (against rows.now p.now plan.now) e) }
 {
@@ -54,8 +55,8 @@ pub fn validate(
     plan: &Plan,
 ) -> Result<Validated, ValidateStop>
     requires fits { IsTrue (is_plan_of (shape_of p.now.regex) (plain_plan plan.now)) }
-    requires residuals { length plan.now.residuals.items < 4000000000 }
-    requires configurations { length plan.now.configurations.items < 4000000000 }
+    requires residuals { length plan.now.residuals.items < too_many }
+    requires configurations { length plan.now.configurations.items < too_many }
     ensures closed { OnOk result (IsClosed (against (rows_of t) p.now plan.now)) }
     ensures valid { OnOk result (IsValid (rows_of t) (shape_of p.now.regex) p.now.b p.now.a) }
     ensures transducer { IfOk result (λ v. rows_of (transducer_of v) ≡ rows_of t) }

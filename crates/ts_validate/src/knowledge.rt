@@ -1,6 +1,7 @@
 //! What is known of a plan's residuals, by their numbers, so that a step compares numbers alone.
 
 ghost use Rattle.std.specs.Prelude.{◌≡◌, ◌<◌, length, map, IfOk};
+ghost use Rattle.ts_base.specs.Limits.{too_many};
 ghost use Rattle.ts_regex.specs.Shape.{shape_of};
 ghost use Rattle.ts_forms.specs.Nodes.{form_at};
 ghost use Rattle.ts_validate.specs.Numbers.{known_of, table_of, known_at, next_on};
@@ -61,7 +62,7 @@ pub fn look_up(table: &[Knowledge], i: u32) -> Knowledge
 fn know(alloc: Global, residuals: &mut Residuals, i: usize) -> Result<Knowledge, Memory>
     requires sound { IsSound residuals.old }
     requires there { i < length residuals.old.numbers.items }
-    requires room { length residuals.old.numbers.items < 4000000000 }
+    requires room { length residuals.old.numbers.items < too_many }
     ensures sound { IfOk result (λ _. IsSound residuals.new) }
     ensures numbers { IfOk result (λ _. residuals.new.numbers.items ≡ residuals.old.numbers.items) }
     ensures residuals { IfOk result (λ _. residuals_of residuals.new ≡ residuals_of residuals.old) }
@@ -83,7 +84,7 @@ fn know(alloc: Global, residuals: &mut Residuals, i: usize) -> Result<Knowledge,
 
 /// What is known of each residual.
 pub fn know_all(alloc: Global, residuals: &[Regex]) -> Result<Vec<Knowledge>, Memory>
-    requires { length residuals.now < 4000000000 }
+    requires { length residuals.now < too_many }
     ensures { IfOk result (λ table. table.items ≡ table_of (map (λ s. shape_of s) residuals.now)) }
 {
     let mut listed = Residuals::of(alloc, residuals)?;

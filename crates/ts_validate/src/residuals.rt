@@ -3,6 +3,7 @@
 
 ghost use Rattle.std.specs.Prelude.{◌≡◌, ◌<◌, ◌==◌, IfOk, length, map};
 ghost use Rattle.std.specs.List.{position};
+ghost use Rattle.ts_base.specs.Limits.{too_many};
 ghost use Rattle.ts_regex.specs.Shape.{shape_of};
 ghost use Rattle.ts_regex.specs.NormalForm.{residual};
 ghost use Rattle.ts_forms.specs.Nodes.{form_at};
@@ -60,7 +61,7 @@ impl Residuals {
     pub(crate) fn number(&self, form: usize) -> u32
         requires sound { IsSound self.now }
         requires there { form < length (shapes self.now.forms) }
-        requires room { length self.now.numbers.items < 4000000000 }
+        requires room { length self.now.numbers.items < too_many }
         ensures { result ≡ number_of (residuals_of self.now) (form_at (shapes self.now.forms) form) }
     {
         match self.place(form) {
@@ -87,7 +88,7 @@ impl Residuals {
     pub(crate) fn next(&mut self, alloc: Global, i: usize, letter: Letter) -> Result<u32, Memory>
         requires sound { IsSound self.old }
         requires there { i < length self.old.numbers.items }
-        requires room { length self.old.numbers.items < 4000000000 }
+        requires room { length self.old.numbers.items < too_many }
         ensures sound { IfOk result (λ _. IsSound self.new) }
         ensures numbers { IfOk result (λ _. self.new.numbers.items ≡ self.old.numbers.items) }
         ensures residuals { IfOk result (λ _. residuals_of self.new ≡ residuals_of self.old) }

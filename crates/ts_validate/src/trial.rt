@@ -1,6 +1,7 @@
 //! What is looked at: a transducer's rows against a pattern, by a plan of it.
 
 ghost use Rattle.std.specs.Prelude.{◌≡◌, ◌<◌, IsTrue, IfOk, length};
+ghost use Rattle.ts_base.specs.Limits.{too_many};
 ghost use Rattle.ts_regex.specs.Shape.{shape_of};
 ghost use Rattle.ts_pattern.specs.Plans.{plain_plan, is_plan_of};
 ghost use Rattle.ts_validate.specs.Numbers.{table_of};
@@ -35,7 +36,7 @@ impl<'a> Trial<'a> {
         plan: &'a Plan,
     ) -> Result<Trial<'a>, Memory>
         requires fits { IsTrue (is_plan_of (shape_of pattern.now.regex) (plain_plan plan.now)) }
-        requires few { length plan.now.residuals.items < 4000000000 }
+        requires few { length plan.now.residuals.items < too_many }
         ensures { IfOk result (λ t. subject_of t ≡ against rows.now pattern.now plan.now) }
     {
         let table = know_all(alloc, plan.residuals.as_slice())?;

@@ -2,6 +2,7 @@
 
 ghost use Rattle.std.specs.Prelude.{◌<◌, ℤ, IfOk, IfSome, List, length};
 ghost use Rattle.std.specs.List.{AllByRecursion};
+ghost use Rattle.ts_base.specs.Limits.{too_many};
 ghost use Rattle.ts_bound.specs.TermSpans.{LooksIn, automata_of};
 ghost use Rattle.ts_model.specs.declared.model.Require.{Require};
 
@@ -45,7 +46,7 @@ fn requirement_of(written: &str, terms: u32) -> Option<Require>
 
 /// Fewer than nine requirements on so many terms.
 fn requirements_of(alloc: Global, written: &str, terms: u32) -> Option<Vec<Require>>
-    ensures few { IfSome result (λ v. length v.items < 4000000000) }
+    ensures few { IfSome result (λ v. length v.items < too_many) }
     ensures terms { IfSome result (λ v. AllByRecursion (λ (r : Require). r.term < terms) v.items) }
 {
     let mut requirements = Vec::new(alloc);
@@ -88,7 +89,7 @@ fn drops_so(
     first: &str,
 ) -> Result<bool, Fail>
     requires looks { LooksIn (automata_of m.now) cells.now.present }
-    requires few { length requirements.now < 4000000000 }
+    requires few { length requirements.now < too_many }
     requires terms { AllByRecursion (λ r. r.term < 1) requirements.now }
 {
     let found = next_drop(alloc, slice::from_ref(m), requirements, cells)?;

@@ -2,6 +2,7 @@
 
 ghost use Rattle.std.specs.Prelude.{◌<◌, IfOk, List, length};
 ghost use Rattle.std.specs.List.{AllByRecursion};
+ghost use Rattle.ts_base.specs.Limits.{too_many};
 ghost use Rattle.ts_bound.specs.TermSpans.{LooksIn, automata_of};
 ghost use Rattle.ts_domain.specs.BoxSeries.{IsCell};
 ghost use Rattle.ts_filter.specs.KeptCells.{AreKept, AreSized};
@@ -50,7 +51,7 @@ pub(super) fn drop_by_kept(
     cells: &Boxed,
 ) -> Result<Option<Removal>, Memory>
     requires looks { LooksIn (automata_of m.now) cells.now.present }
-    requires few { length requirements.now < 4000000000 }
+    requires few { length requirements.now < too_many }
     requires terms { AllByRecursion (λ r. r.term < 1) requirements.now }
 {
     let kept = singles(alloc, cells)?;
