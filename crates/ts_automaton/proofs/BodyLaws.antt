@@ -9,7 +9,7 @@ use Rattle.std.proofs.lemmas.Bool.{eqb-true, not-true, and_parts, leb-true, or_p
 use Rattle.std.proofs.lemmas.Bool.Decides.{nat_tests}
 use Rattle.std.proofs.lemmas.List.{take_more, length-map, map_push}
 use Rattle.std.proofs.lemmas.List.Folds.{list_any-append}
-use Rattle.ts_automaton.specs.declared.draft.Way.{Way}
+use Rattle.ts_automaton.specs.declared.draft.Direction.{Direction}
 use Rattle.ts_automaton.specs.declared.draft.StateLine.{StateLine}
 use Rattle.ts_automaton.specs.declared.state.State.{State}
 use Rattle.ts_automaton.specs.declared.state.Turn.{Turn}
@@ -43,8 +43,8 @@ pub as_many_moves : (ss : List Node) → length (all_moves ss) ≡ 3 * length ss
 as_many_moves [] = refl
 as_many_moves (s ∷ ss) = let more = as_many_moves ss in omega (arith, more)
 
-pub body_again : (way : Way) (m : Body) → sheet_body (sheet_of way m) ≡ m
-body_again way m = ap (λ (x : List Node). record m { states = x }) (grouped_again m.states)
+pub body_again : (direction : Direction) (m : Body) → sheet_body (sheet_of direction m) ≡ m
+body_again direction m = ap (λ (x : List Node). record m { states = x }) (grouped_again m.states)
 
 -- names that differ
 
@@ -177,8 +177,8 @@ formed_parts m h =
     let second = and_parts a b third.0 in
     record { few = second.0; names = second.1; constants = third.1; targets = fourth.1; short = last.1 }
 
-pub formed_sheet : (way : Way) (m : Body) → is_formed m ≡ true → IsSheet (sheet_of way m)
-formed_sheet way m h =
+pub formed_sheet : (direction : Direction) (m : Body) → is_formed m ≡ true → IsSheet (sheet_of direction m)
+formed_sheet direction m h =
     let is = formed_parts m h in
     let count = and_parts (nat_le 1 (length m.states)) (nat_le (length m.states) 8) is.few in
     let some = leb-true 1 (length m.states) count.0 in
@@ -200,8 +200,8 @@ formed_sheet way m h =
       finish = short.1;
     }
 
-pub sheet_formed : (way : Way) (m : Body) → IsSheet (sheet_of way m) → is_formed m ≡ true
-sheet_formed way m is =
+pub sheet_formed : (direction : Direction) (m : Body) → IsSheet (sheet_of direction m) → is_formed m ≡ true
+sheet_formed direction m is =
     let size = as_many_lines m.states in
     let some = is.front.some in
     let few = is.front.few in

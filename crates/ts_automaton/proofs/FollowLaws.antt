@@ -8,7 +8,7 @@ use Rattle.std.proofs.lemmas.List.Sums.{position_or_len_is}
 use Rattle.std.proofs.lemmas.List.{length_push}
 use Rattle.ts_base.specs.declared.ext.Ext.{Ext}
 use Rattle.ts_base.proofs.WordLaws.{AreSolid}
-use Rattle.ts_automaton.specs.declared.draft.Way.{Way}
+use Rattle.ts_automaton.specs.declared.draft.Direction.{Direction}
 use Rattle.ts_automaton.specs.declared.draft.StateLine.{StateLine}
 use Rattle.ts_automaton.specs.Registers.{EachOf}
 use Rattle.ts_automaton.specs.Body.{Move}
@@ -73,89 +73,94 @@ place_again states k h within =
     ap (λ (n : ℕ). cond (nat_lt n (length states)) (Some n) None) at ∙ ap (λ t. cond t (Some k) None) (lt-ltb k (length states) within)
 
 -- the lines of what was read follow one another
-states_follow : (way : Way) (wide : Bool) (more before : List StateLine) → are_new before more ≡ true → length before + length more ≤ 8 →
-    Follows (AtStates way wide before) (map state_words more) (AtStates way wide (before ++ more))
-states_follow way wide [] before h few = ap (AtStates way wide) (sym (append-nil before))
-states_follow way wide (n ∷ more) before h few =
+states_follow : (direction : Direction) (wide : Bool) (more before : List StateLine) → are_new before more ≡ true → length before + length more ≤ 8 →
+    Follows (AtStates direction wide before) (map state_words more) (AtStates direction wide (before ++ more))
+states_follow direction wide [] before h few = ap (AtStates direction wide) (sym (append-nil before))
+states_follow direction wide (n ∷ more) before h few =
     let each = and_parts (is_new before n.name) (are_new (before ++ n ∷ []) more) h in
     let size = length_push before n in (
-      AtStates way wide (before ++ n ∷ []),
-      ap (with_state way wide before) (state_again before n each.0)
-          ∙ ap (λ t. cond t (Some (AtStates way wide (before ++ n ∷ []))) None) (lt-ltb (length before) 8 (omega (arith, few))),
+      AtStates direction wide (before ++ n ∷ []),
+      ap (with_state direction wide before) (state_again before n each.0)
+          ∙ ap (λ t. cond t (Some (AtStates direction wide (before ++ n ∷ []))) None) (lt-ltb (length before) 8 (omega (arith, few))),
       state_solid n (and_parts (is_name n.name) (not (is_named before n.name)) each.0).0,
-      subst (λ (y : List StateLine). Follows (AtStates way wide (before ++ n ∷ [])) (map state_words more) (AtStates way wide y))
+      subst (λ (y : List StateLine). Follows (AtStates direction wide (before ++ n ∷ [])) (map state_words more) (AtStates direction wide y))
           (append_assoc before (n ∷ []) more)
-          (states_follow way wide more (before ++ n ∷ []) each.1 (omega (arith, few, size))),
+          (states_follow direction wide more (before ++ n ∷ []) each.1 (omega (arith, few, size))),
     )
 
 third : (k n : ℕ) → k < 3 * n → k / 3 < n
 third k n h = omega arith
 
-moves_follow : (way : Way) (wide : Bool) (states : List StateLine) (start : EachOf Ext) (more before : List Move) → are_new [] states ≡ true →
+moves_follow : (direction : Direction) (wide : Bool) (states : List StateLine) (start : EachOf Ext) (more before : List Move) → are_new [] states ≡ true →
     list_all (is_move wide states) more ≡ true → length before + length more ≤ 3 * length states →
-    Follows (AtMoves way wide states start before) (moves_words wide states (length before) more) (AtMoves way wide states start (before ++ more))
-moves_follow way wide states start [] before names h few = ap (AtMoves way wide states start) (sym (append-nil before))
-moves_follow way wide states start (t ∷ more) before names h few =
+    Follows (AtMoves direction wide states start before) (moves_words wide states (length before) more) (AtMoves direction wide states start (before ++ more))
+moves_follow direction wide states start [] before names h few = ap (AtMoves direction wide states start) (sym (append-nil before))
+moves_follow direction wide states start (t ∷ more) before names h few =
     let each = and_parts (is_move wide states t) (list_all (is_move wide states) more) h in
     let target = ltb-true t.next (length states) (and_parts (nat_lt t.next (length states)) (are_expressions wide t.to) each.0).0 in
     let room : length before < 3 * length states = omega (arith, few) in
     let size = length_push before t in
-    let rest = moves_follow way wide states start more (before ++ t ∷ []) names each.1 (omega (arith, few, size)) in (
-      AtMoves way wide states start (before ++ t ∷ []),
-      ap (λ b. cond b (with_move way wide states start before (read_move wide states (length before) (move_words wide states (length before) t)))
-          (with_finish way wide states start before (read_finish wide (move_words wide states (length before) t))))
+    let rest = moves_follow direction wide states start more (before ++ t ∷ []) names each.1 (omega (arith, few, size)) in (
+      AtMoves direction wide states start (before ++ t ∷ []),
+      ap (λ b. cond b (with_move direction wide states start before (read_move wide states (length before) (move_words wide states (length before) t)))
+          (with_finish direction wide states start before (read_finish wide (move_words wide states (length before) t))))
           (lt-ltb (length before) (3 * length states) room)
-          ∙ ap (with_move way wide states start before) (move_again wide states (length before) t (place_again states t.next names target) each.0),
+          ∙ ap (with_move direction wide states start before) (move_again wide states (length before) t (place_again states t.next names target) each.0),
       move_solid wide states (length before) t (letter_at states (length before / 3) names (third (length before) (length states) room))
           (letter_at states t.next names target),
-      subst (λ (y : List Move). Follows (AtMoves way wide states start (before ++ t ∷ [])) (moves_words wide states (length before + 1) more)
-          (AtMoves way wide states start y)) (append_assoc before (t ∷ []) more)
-          (subst (λ (k : ℕ). Follows (AtMoves way wide states start (before ++ t ∷ [])) (moves_words wide states k more)
-          (AtMoves way wide states start (before ++ t ∷ [] ++ more))) size rest),
+      subst (λ (y : List Move). Follows (AtMoves direction wide states start (before ++ t ∷ [])) (moves_words wide states (length before + 1) more)
+          (AtMoves direction wide states start y)) (append_assoc before (t ∷ []) more)
+          (subst (λ (k : ℕ). Follows (AtMoves direction wide states start (before ++ t ∷ [])) (moves_words wide states k more)
+          (AtMoves direction wide states start (before ++ t ∷ [] ++ more))) size rest),
     )
 
-states_lines_follow : (way : Way) (wide : Bool) (states : List StateLine) → are_new [] states ≡ true → length states ≤ 8 →
-    Follows AtHead (prefix_words (AtStates way wide states)) (AtStates way wide states)
-states_lines_follow way wide states h few =
-    (AtStates way wide [], ap with_head (head_again way wide), head_solid way wide, states_follow way wide states [] h (omega (arith, few)))
+states_lines_follow : (direction : Direction) (wide : Bool) (states : List StateLine) → are_new [] states ≡ true → length states ≤ 8 →
+    Follows AtHead (prefix_words (AtStates direction wide states)) (AtStates direction wide states)
+states_lines_follow direction wide states h few = (
+  AtStates direction wide [],
+  ap with_head (head_again direction wide),
+  head_solid direction wide,
+  states_follow direction wide states [] h (omega (arith, few)),
+)
 
-moving_follows : (way : Way) (wide : Bool) (states : List StateLine) (start : EachOf Ext) (moves : List Move) → IsFront wide states start moves →
-    length moves ≤ 3 * length states → Follows AtHead (front_words way wide states start moves) (AtMoves way wide states start moves)
-moving_follows way wide states start moves is count =
-    let moving = moves_follow way wide states start moves [] is.names is.turns (omega (arith, count)) in
-    let begun : Follows (AtStates way wide states) (start_words wide start ∷ moves_words wide states 0 moves) (AtMoves way wide states start moves) = (
-      AtMoves way wide states start [],
-      ap (with_start way wide states) (start_again wide start is.constants)
-          ∙ ap (λ t. cond t (Some (AtMoves way wide states start [])) None) (lt-ltb 0 (length states) is.some),
+moving_follows : (direction : Direction) (wide : Bool) (states : List StateLine) (start : EachOf Ext) (moves : List Move) → IsFront wide states start moves →
+    length moves ≤ 3 * length states → Follows AtHead (front_words direction wide states start moves) (AtMoves direction wide states start moves)
+moving_follows direction wide states start moves is count =
+    let moving = moves_follow direction wide states start moves [] is.names is.turns (omega (arith, count)) in
+    let begun : Follows (AtStates direction wide states) (start_words wide start ∷ moves_words wide states 0 moves)
+    (AtMoves direction wide states start moves) = (
+      AtMoves direction wide states start [],
+      ap (with_start direction wide states) (start_again wide start is.constants)
+          ∙ ap (λ t. cond t (Some (AtMoves direction wide states start [])) None) (lt-ltb 0 (length states) is.some),
       start_solid wide start is.constants,
       moving,
     ) in
-    follows_append AtHead (AtStates way wide states) (AtMoves way wide states start moves) (prefix_words (AtStates way wide states))
-    (start_words wide start ∷ moves_words wide states 0 moves) (states_lines_follow way wide states is.names is.few) begun
+    follows_append AtHead (AtStates direction wide states) (AtMoves direction wide states start moves) (prefix_words (AtStates direction wide states))
+    (start_words wide start ∷ moves_words wide states 0 moves) (states_lines_follow direction wide states is.names is.few) begun
 
 closing_follows : (b : Sheet) → IsSheet b → Follows AtHead (open_words b) (AtEnd b)
 closing_follows b is =
     let count = is.count in
     let full : 3 * length b.states ≤ length b.moves = omega (arith, count) in
     let most : length b.moves ≤ 3 * length b.states = omega (arith, count) in
-    let finish : Follows (AtMoves b.way b.wide b.states b.start b.moves) (finish_words b.finish b.mark ∷ []) (AtEnd b) = (
+    let finish : Follows (AtMoves b.direction b.wide b.states b.start b.moves) (finish_words b.finish b.mark ∷ []) (AtEnd b) = (
       AtEnd b,
-      ap (λ t. cond t (with_move b.way b.wide b.states b.start b.moves (read_move b.wide b.states (length b.moves) (finish_words b.finish b.mark)))
-          (with_finish b.way b.wide b.states b.start b.moves (read_finish b.wide (finish_words b.finish b.mark))))
+      ap (λ t. cond t (with_move b.direction b.wide b.states b.start b.moves (read_move b.wide b.states (length b.moves) (finish_words b.finish b.mark)))
+          (with_finish b.direction b.wide b.states b.start b.moves (read_finish b.wide (finish_words b.finish b.mark))))
           (le-ltb (length b.moves) (3 * length b.states) full)
-          ∙ ap (with_finish b.way b.wide b.states b.start b.moves) (finish_again b.wide b.finish b.mark is.finish),
+          ∙ ap (with_finish b.direction b.wide b.states b.start b.moves) (finish_again b.wide b.finish b.mark is.finish),
       finish_solid b.finish b.mark,
       refl,
     ) in
-    follows_append AtHead (AtMoves b.way b.wide b.states b.start b.moves) (AtEnd b) (front_words b.way b.wide b.states b.start b.moves)
-    (finish_words b.finish b.mark ∷ []) (moving_follows b.way b.wide b.states b.start b.moves is.front most) finish
+    follows_append AtHead (AtMoves b.direction b.wide b.states b.start b.moves) (AtEnd b) (front_words b.direction b.wide b.states b.start b.moves)
+    (finish_words b.finish b.mark ∷ []) (moving_follows b.direction b.wide b.states b.start b.moves is.front most) finish
 
 pub whole_follows : (b : Sheet) → IsSheet b → Follows AtHead (prefix_words (Whole b)) (Whole b)
 whole_follows b is = follows_append AtHead (AtEnd b) (Whole b) (open_words b) ((codes "end" ∷ []) ∷ []) (closing_follows b is) (Whole b, refl, end_solid, refl)
 
 pub follow : (e : Prefix) → IsPrefix e → Follows AtHead (prefix_words e) e
 follow AtHead is = refl
-follow (AtStates way wide states) is = states_lines_follow way wide states is.names is.few
-follow (AtMoves way wide states start moves) is = moving_follows way wide states start moves is.front is.count
+follow (AtStates direction wide states) is = states_lines_follow direction wide states is.names is.few
+follow (AtMoves direction wide states start moves) is = moving_follows direction wide states start moves is.front is.count
 follow (AtEnd b) is = closing_follows b is
 follow (Whole b) is = whole_follows b is

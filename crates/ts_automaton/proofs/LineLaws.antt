@@ -10,14 +10,14 @@ use Rattle.std.proofs.lemmas.Bool.Decides.{Decides-int_eq}
 use Rattle.ts_base.specs.declared.ext.Ext.{Ext}
 use Rattle.ts_base.specs.declared.ext.Ext.TheVariants.{NegInf, Int, PosInf}
 use Rattle.ts_base.proofs.WordLaws.{keyword_or}
-use Rattle.ts_automaton.specs.declared.draft.Way.{Way}
-use Rattle.ts_automaton.specs.declared.draft.Way.TheVariants.{Forward, Reverse}
+use Rattle.ts_automaton.specs.declared.draft.Direction.{Direction}
+use Rattle.ts_automaton.specs.declared.draft.Direction.TheVariants.{Forward, Reverse}
 use Rattle.ts_automaton.specs.declared.draft.StateLine.{StateLine}
 use Rattle.ts_automaton.specs.Registers.{EachOf}
 use Rattle.ts_automaton.specs.Typing.{each_is, is_constant, is_number_zero, are_constants}
-use Rattle.ts_automaton.specs.AutomatonText.{way_word, head_words, held_word, state_words, constant_word, start_words}
+use Rattle.ts_automaton.specs.AutomatonText.{direction_word, head_words, held_word, state_words, constant_word, start_words}
 use Rattle.ts_automaton.specs.Grammar.{is_new}
-use Rattle.ts_automaton.specs.Lines.{word_at, way_of, head_made, read_head, held_of, only_byte, new_name, state_made, read_state, constant_of, constant_at, constants_of, stride, read_start, is_end}
+use Rattle.ts_automaton.specs.Lines.{word_at, direction_of, head_made, read_head, held_of, only_byte, new_name, state_made, read_state, constant_of, constant_at, constants_of, stride, read_start, is_end}
 use Rattle.ts_automaton.proofs.Five.{five_parts, all_parts, all_again, read_tests}
 
 -- a list of words
@@ -96,39 +96,41 @@ three_true true false c e f g = cc
 three_true false b c e f g = cc
 
 -- heads
-way_word_only : (w : List ℕ) (x : Way) → way_of w ≡ Some x → w ≡ way_word x
-way_word_only w x h =
-    keyword_or (w ≡ way_word x) w (codes "forward") (Some Forward) _ x (λ is k. let e : Forward ≡ x = cc in is ∙ ap way_word e)
-    (keyword_or (w ≡ way_word x) w (codes "reverse") (Some Reverse) None x (λ is k. let e : Reverse ≡ x = cc in is ∙ ap way_word e)
+direction_word_only : (w : List ℕ) (x : Direction) → direction_of w ≡ Some x → w ≡ direction_word x
+direction_word_only w x h =
+    keyword_or (w ≡ direction_word x) w (codes "forward") (Some Forward) _ x (λ is k. let e : Forward ≡ x = cc in is ∙ ap direction_word e)
+    (keyword_or (w ≡ direction_word x) w (codes "reverse") (Some Reverse) None x (λ is k. let e : Reverse ≡ x = cc in is ∙ ap direction_word e)
     (λ k. cc))
     h
 
-made_only : (wide : Bool) (w : List ℕ) (o : Option Way) (h : Way × Bool) → way_of w ≡ o → head_made wide o ≡ Some h → (w ≡ way_word h.0) × (wide ≡ h.1)
+made_only : (wide : Bool) (w : List ℕ) (o : Option Direction) (h : Direction × Bool) → direction_of w ≡ o → head_made wide o ≡ Some h →
+    (w ≡ direction_word h.0) × (wide ≡ h.1)
 made_only wide w None h e k = cc
 made_only wide w (Some x) h e k =
-    let is : ◌≡◌ {A = Way × Bool} (x, wide) h = cc in
-    subst (λ (y : Way × Bool). (w ≡ way_word y.0) × (wide ≡ y.1)) is (way_word_only w x e, refl)
+    let is : ◌≡◌ {A = Direction × Bool} (x, wide) h = cc in
+    subst (λ (y : Direction × Bool). (w ≡ direction_word y.0) × (wide ≡ y.1)) is (direction_word_only w x e, refl)
 
 -- the way, and `wide`
-pub head_only : (ws : W) (h : Way × Bool) → read_head ws ≡ Some h → ws ≡ head_words h.0 h.1
+pub head_only : (ws : W) (h : Direction × Bool) → read_head ws ≡ Some h → ws ≡ head_words h.0 h.1
 head_only ws h k = go (length ws == 1) refl k where
-  marked : Option (Way × Bool)
-  marked = cond (bytes_eq (word_at ws 1) (codes "wide")) (head_made true (way_of (word_at ws 0))) None
+  marked : Option (Direction × Bool)
+  marked = cond (bytes_eq (word_at ws 1) (codes "wide")) (head_made true (direction_of (word_at ws 0))) None
 
-  go : (t : Bool) → length ws == 1 ≡ t → cond t (head_made false (way_of (word_at ws 0))) (cond (length ws == 2) marked None) ≡ Some h → ws ≡ head_words h.0 h.1
+  go : (t : Bool) → length ws == 1 ≡ t → cond t (head_made false (direction_of (word_at ws 0))) (cond (length ws == 2) marked None) ≡ Some h →
+      ws ≡ head_words h.0 h.1
   go true e k =
-      let s = made_only false (word_at ws 0) (way_of (word_at ws 0)) h refl k in
+      let s = made_only false (word_at ws 0) (direction_of (word_at ws 0)) h refl k in
       one_word ws e ∙ ap (λ (w : List ℕ). w ∷ []) s.0 ∙ ap (head_words h.0) s.1
   go false e k =
       let p = pass (length ws == 2) marked h k in
-      let q = pass (bytes_eq (word_at ws 1) (codes "wide")) (head_made true (way_of (word_at ws 0))) h p.1 in
-      let s = made_only true (word_at ws 0) (way_of (word_at ws 0)) h refl q.1 in
+      let q = pass (bytes_eq (word_at ws 1) (codes "wide")) (head_made true (direction_of (word_at ws 0))) h p.1 in
+      let s = made_only true (word_at ws 0) (direction_of (word_at ws 0)) h refl q.1 in
       two ws p.0
       ∙ ap (λ (w : List ℕ). w ∷ word_at ws 1 ∷ []) s.0
-      ∙ ap (λ (w : List ℕ). way_word h.0 ∷ w ∷ []) (equal (word_at ws 1) (codes "wide") q.0)
+      ∙ ap (λ (w : List ℕ). direction_word h.0 ∷ w ∷ []) (equal (word_at ws 1) (codes "wide") q.0)
       ∙ ap (head_words h.0) s.1
 
-pub head_again : (way : Way) (wide : Bool) → read_head (head_words way wide) ≡ Some (way, wide)
+pub head_again : (direction : Direction) (wide : Bool) → read_head (head_words direction wide) ≡ Some (direction, wide)
 head_again Forward false = refl
 head_again Forward true = refl
 head_again Reverse false = refl

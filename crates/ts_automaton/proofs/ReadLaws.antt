@@ -170,8 +170,8 @@ written_read b is =
 ended_only : (n : ℕ) (r : Result Prefix ℕ) (b : Sheet) → end_sheet n r ≡ Ok b → r ≡ Ok (Whole b)
 ended_only n (Err k) b h = cc
 ended_only n (Ok AtHead) b h = cc
-ended_only n (Ok (AtStates way wide states)) b h = cc
-ended_only n (Ok (AtMoves way wide states start moves)) b h = cc
+ended_only n (Ok (AtStates direction wide states)) b h = cc
+ended_only n (Ok (AtMoves direction wide states start moves)) b h = cc
 ended_only n (Ok (AtEnd c)) b h = cc
 ended_only n (Ok (Whole c)) b h = let same : c ≡ b = cc in ap (λ (x : Sheet). Ok (Whole x)) same
 
@@ -198,8 +198,8 @@ ended_refused : (texts : List (List ℕ)) (r : Result Prefix ℕ) (k : ℕ) → 
     IsAgainstGrammar texts k
 ended_refused texts (Err j) k e h = let same : j ≡ k = cc in inl (first_bad texts k (e ∙ ap (λ (x : ℕ). Err x) same))
 ended_refused texts (Ok AtHead) k e h = cut_short texts AtHead _ k tt e h refl
-ended_refused texts (Ok (AtStates way wide states)) k e h = cut_short texts (AtStates way wide states) _ k tt e h refl
-ended_refused texts (Ok (AtMoves way wide states start moves)) k e h = cut_short texts (AtMoves way wide states start moves) _ k tt e h refl
+ended_refused texts (Ok (AtStates direction wide states)) k e h = cut_short texts (AtStates direction wide states) _ k tt e h refl
+ended_refused texts (Ok (AtMoves direction wide states start moves)) k e h = cut_short texts (AtMoves direction wide states start moves) _ k tt e h refl
 ended_refused texts (Ok (AtEnd b)) k e h = cut_short texts (AtEnd b) _ k tt e h refl
 ended_refused texts (Ok (Whole b)) k e h = cc
 
@@ -242,8 +242,8 @@ bad_told texts k bad =
 
 open_told : (n : ℕ) (d : Prefix) → IsOpen d → end_sheet n (Ok d) ≡ Err n
 open_told n AtHead h = refl
-open_told n (AtStates way wide states) h = refl
-open_told n (AtMoves way wide states start moves) h = refl
+open_told n (AtStates direction wide states) h = refl
+open_told n (AtMoves direction wide states start moves) h = refl
 open_told n (AtEnd b) h = refl
 open_told n (Whole b) h = absurd h
 

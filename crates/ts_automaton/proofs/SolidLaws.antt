@@ -7,8 +7,8 @@ use Rattle.std.proofs.lemmas.Bool.Decides.{nat_tests}
 use Rattle.std.proofs.lemmas.Bool.{and_parts, leb-true}
 use Rattle.ts_base.specs.declared.ext.Ext.{Ext}
 use Rattle.ts_base.proofs.WordLaws.{is_inner, is_solid, AreSolid}
-use Rattle.ts_automaton.specs.declared.draft.Way.{Way}
-use Rattle.ts_automaton.specs.declared.draft.Way.TheVariants.{Forward, Reverse}
+use Rattle.ts_automaton.specs.declared.draft.Direction.{Direction}
+use Rattle.ts_automaton.specs.declared.draft.Direction.TheVariants.{Forward, Reverse}
 use Rattle.ts_automaton.specs.declared.draft.StateLine.{StateLine}
 use Rattle.ts_automaton.specs.declared.state.Mark.{Mark}
 use Rattle.ts_automaton.specs.declared.state.Mark.TheVariants.{Same, Zero as ZeroMark, Cells}
@@ -82,7 +82,7 @@ each_solid words true a c e d f r =
     (solid_append (words a.d) (words a.f ++ (words a.r ++ [])) d
     (solid_append (words a.f) (words a.r ++ []) f (solid_append (words a.r) [] r tt))))
 
-pub head_solid : (way : Way) (wide : Bool) → AreSolid (head_words way wide)
+pub head_solid : (direction : Direction) (wide : Bool) → AreSolid (head_words direction wide)
 unfolding is_space is_lf
 head_solid Forward false = (refl, tt)
 head_solid Reverse false = (refl, tt)

@@ -4,8 +4,8 @@ use Rattle.std.specs.Prelude.{Result, Ok, Err, IsTrue, is_none}
 use Rattle.std.specs.Cmp.Derive.{both_true}
 use Rattle.std.proofs.lemmas.Bool.{and_parts}
 use Rattle.std.proofs.lemmas.List.{length-map}
-use Rattle.ts_automaton.specs.declared.draft.Way.{Way}
-use Rattle.ts_automaton.specs.declared.draft.Way.TheVariants.{Forward}
+use Rattle.ts_automaton.specs.declared.draft.Direction.{Direction}
+use Rattle.ts_automaton.specs.declared.draft.Direction.TheVariants.{Forward}
 use Rattle.ts_automaton.specs.declared.stop.AutoStop.{AutoStop}
 use Rattle.ts_automaton.specs.declared.stop.AutoStop.TheVariants.{Text, Typing, Memory}
 use Rattle.ts_automaton.specs.declared.typing.Place.{Place}
@@ -27,10 +27,10 @@ block_read : (text : List ℕ) (m : Body) → is_formed m ≡ true → (is : IsB
 block_read text m formed is = ap sheet_reading is.1 ∙ written_read (sheet_of is.0 m) (formed_sheet is.0 m formed)
 
 -- lines that were read are the block of an automaton that has them
-pub sheet_block : (text : List ℕ) (b : Sheet) (m : Body) → sheet_reading text ≡ Ok b → sheet_of b.way m ≡ b → IsTrue (is_formed m) × IsBlockOf text m
+pub sheet_block : (text : List ℕ) (b : Sheet) (m : Body) → sheet_reading text ≡ Ok b → sheet_of b.direction m ≡ b → IsTrue (is_formed m) × IsBlockOf text m
 sheet_block text b m h same =
     let read = read_written text b h in
-    (sheet_formed b.way m (subst IsSheet (sym same) read.0), (b.way, read.1 ∙ ap (λ (x : Sheet). lines_text (prefix_words (Whole x))) (sym same)))
+    (sheet_formed b.direction m (subst IsSheet (sym same) read.0), (b.direction, read.1 ∙ ap (λ (x : Sheet). lines_text (prefix_words (Whole x))) (sym same)))
 
 -- the one reading of a text
 abbrev typed : Body → Option Place → Result Body AutoStop
@@ -68,10 +68,10 @@ sheet_refused text (Typing k) h = absurd h
 sheet_refused text Memory h = tt
 
 -- a block in the grammar, and the automaton that has it
-pub formed_by : (b : Sheet) (m : Body) → IsSheet b → sheet_of b.way m ≡ b → is_formed m ≡ true
-formed_by b m is same = sheet_formed b.way m (subst IsSheet (sym same) is)
+pub formed_by : (b : Sheet) (m : Body) → IsSheet b → sheet_of b.direction m ≡ b → is_formed m ≡ true
+formed_by b m is same = sheet_formed b.direction m (subst IsSheet (sym same) is)
 
-pub few_by : (b : Sheet) (m : Body) (items : List State) → IsSheet b → sheet_of b.way m ≡ b → m.states ≡ map node_of items → length items ≤ 8
+pub few_by : (b : Sheet) (m : Body) (items : List State) → IsSheet b → sheet_of b.direction m ≡ b → m.states ≡ map node_of items → length items ≤ 8
 few_by b m items is same states =
     let few = is.front.few in
     let lines = ap (λ (x : Sheet). length x.states) same in
@@ -80,13 +80,13 @@ few_by b m items is same states =
     let count : length (map node_of items) ≡ length items = simp length-map in
     omega (arith, few, lines, nodes, size, count)
 
-pub rules_by : (b : Sheet) (m : Body) → IsSheet b → sheet_of b.way m ≡ b → None ≡ typing_fault m → IsTrue (is_automaton m)
+pub rules_by : (b : Sheet) (m : Body) → IsSheet b → sheet_of b.direction m ≡ b → None ≡ typing_fault m → IsTrue (is_automaton m)
 rules_by b m is same none = both_true (formed_by b m is same) (typed_or_fault m ∙ ap is_none (sym none))
 
-pub taken_by : (b : Sheet) (m n : Body) → IsSheet b → sheet_of b.way m ≡ b → None ≡ typing_fault m → n ≡ m → Judges b (Ok n)
+pub taken_by : (b : Sheet) (m n : Body) → IsSheet b → sheet_of b.direction m ≡ b → None ≡ typing_fault m → n ≡ m → Judges b (Ok n)
 taken_by b m n is same none are = subst (λ (x : Body). Judges b (Ok x)) (sym are) (rules_by b m is same none, same)
 
-pub fault_by : (b : Sheet) (m : Body) (items : List State) (p : Place) (n k : ℕ) → sheet_of b.way m ≡ b →
+pub fault_by : (b : Sheet) (m : Body) (items : List State) (p : Place) (n k : ℕ) → sheet_of b.direction m ≡ b →
     Some p ≡ typing_fault m → m.states ≡ map node_of items →
     n ≡ length items → k ≡ line_at n p → Judges b (Err (Typing k))
 fault_by b m items p n k same fault states count line =
@@ -115,9 +115,10 @@ moves_by b moves is e =
 answered : (m : Body) → ◌≢◌ {A = Result Body AutoStop} (Ok m) (Err Memory)
 answered m h = cc
 
-pub written_again : (m : Body) (way : Way) (r : Result Body AutoStop) → IsTrue (is_automaton m) → Reads (head_text way m.wide ++ body_text m) r →
+pub written_again : (m : Body) (direction : Direction) (r : Result Body AutoStop) → IsTrue (is_automaton m) →
+    Reads (head_text direction m.wide ++ body_text m) r →
     r ≢ Err Memory → r ≡ Ok m
-written_again m way r rules is more = one_reading (head_text way m.wide ++ body_text m) r (Ok m) is (rules, (way, refl)) more (answered m)
+written_again m direction r rules is more = one_reading (head_text direction m.wide ++ body_text m) r (Ok m) is (rules, (direction, refl)) more (answered m)
 
 of_one_width : (m n : Body) → IsTrue (is_automaton m) → IsTrue (is_automaton n) → m.wide ≡ n.wide → body_text m ≡ body_text n → m ≡ n
 of_one_width m n rules also width same =

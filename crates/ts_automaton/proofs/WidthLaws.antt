@@ -5,8 +5,8 @@ use Rattle.std.specs.Str.{bytes_eq}
 use Rattle.std.proofs.lemmas.Bool.{eqb-true}
 use Rattle.ts_base.specs.declared.ext.Ext.{Ext}
 use Rattle.ts_base.specs.Words.{strict_lines, without_lf, words_of, all_words}
-use Rattle.ts_automaton.specs.declared.draft.Way.{Way}
-use Rattle.ts_automaton.specs.declared.draft.Way.TheVariants.{Forward}
+use Rattle.ts_automaton.specs.declared.draft.Direction.{Direction}
+use Rattle.ts_automaton.specs.declared.draft.Direction.TheVariants.{Forward}
 use Rattle.ts_automaton.specs.declared.draft.StateLine.{StateLine}
 use Rattle.ts_automaton.specs.Registers.{EachOf}
 use Rattle.ts_automaton.specs.Body.{Body}
@@ -29,43 +29,46 @@ sizes_differ ws r s h g =
     let six = eqb-true (length ws) 6 q.0 in
     omega (arith, four, six)
 
-module _ (way : Way) (states : List StateLine) (n k : ℕ) (b c : Sheet) (narrow wider : Prefix → Result Prefix ℕ) where
+module _ (direction : Direction) (states : List StateLine) (n k : ℕ) (b c : Sheet) (narrow wider : Prefix → Result Prefix ℕ) where
   starts_apart : (ws : W) (o p : Option (EachOf Ext)) → read_start false ws ≡ o → read_start true ws ≡ p →
-      onward n (with_start way false states o) narrow ≡ Ok (Whole b) → onward k (with_start way true states p) wider ≡ Ok (Whole c) → ⊥
+      onward n (with_start direction false states o) narrow ≡ Ok (Whole b) → onward k (with_start direction true states p) wider ≡ Ok (Whole c) → ⊥
   starts_apart ws None p e f h g = cc
   starts_apart ws (Some r) None e f h g = cc
   starts_apart ws (Some r) (Some s) e f h g = sizes_differ ws r s e f
 
   -- the two ways to go on after one more state
   abbrev GoOn : Type 0
-  GoOn = (s : StateLine) → narrow (AtStates way false (states ++ s ∷ [])) ≡ Ok (Whole b) → wider (AtStates way true (states ++ s ∷ [])) ≡ Ok (Whole c) → ⊥
+  GoOn = (s : StateLine) → narrow (AtStates direction false (states ++ s ∷ [])) ≡ Ok (Whole b) →
+      wider (AtStates direction true (states ++ s ∷ [])) ≡ Ok (Whole c) → ⊥
 
-  states_apart : GoOn → (o : Option StateLine) → onward n (with_state way false states o) narrow ≡ Ok (Whole b) →
-      onward k (with_state way true states o) wider ≡ Ok (Whole c) → ⊥
+  states_apart : GoOn → (o : Option StateLine) → onward n (with_state direction false states o) narrow ≡ Ok (Whole b) →
+      onward k (with_state direction true states o) wider ≡ Ok (Whole c) → ⊥
   states_apart later None h g = cc
   states_apart later (Some s) h g = go (nat_lt (length states) 8) h g where
-    go : (t : Bool) → onward n (cond t (Some (AtStates way false (states ++ s ∷ []))) None) narrow ≡ Ok (Whole b) →
-        onward k (cond t (Some (AtStates way true (states ++ s ∷ []))) None) wider ≡ Ok (Whole c) → ⊥
+    go : (t : Bool) → onward n (cond t (Some (AtStates direction false (states ++ s ∷ []))) None) narrow ≡ Ok (Whole b) →
+        onward k (cond t (Some (AtStates direction true (states ++ s ∷ []))) None) wider ≡ Ok (Whole c) → ⊥
     go true h g = later s h g
     go false h g = cc
 
   words_apart : GoOn → (ws : W) (t : Bool) →
-      onward n (cond t (with_state way false states (read_state states ws)) (with_start way false states (read_start false ws))) narrow ≡ Ok (Whole b) →
-      onward k (cond t (with_state way true states (read_state states ws)) (with_start way true states (read_start true ws))) wider ≡ Ok (Whole c) → ⊥
+      onward n (cond t (with_state direction false states (read_state states ws)) (with_start direction false states (read_start false ws))) narrow
+      ≡ Ok (Whole b) →
+      onward k (cond t (with_state direction true states (read_state states ws)) (with_start direction true states (read_start true ws))) wider ≡ Ok (Whole c) →
+      ⊥
   words_apart later ws true h g = states_apart later (read_state states ws) h g
   words_apart later ws false h g = starts_apart ws (read_start false ws) (read_start true ws) refl refl h g
 
-  line_apart : GoOn → (o : Option (List ℕ)) → onward n (with_text (AtStates way false states) o) narrow ≡ Ok (Whole b) →
-      onward k (with_text (AtStates way true states) o) wider ≡ Ok (Whole c) → ⊥
+  line_apart : GoOn → (o : Option (List ℕ)) → onward n (with_text (AtStates direction false states) o) narrow ≡ Ok (Whole b) →
+      onward k (with_text (AtStates direction true states) o) wider ≡ Ok (Whole c) → ⊥
   line_apart later None h g = cc
   line_apart later (Some line) h g = words_apart later (all_words (words_of line)) (is_state_line (all_words (words_of line))) h g
 
-lines_apart : (way : Way) (ts : List (List ℕ)) (states : List StateLine) (n k : ℕ) (b c : Sheet) →
-    with_lines (AtStates way false states) n ts ≡ Ok (Whole b) → with_lines (AtStates way true states) k ts ≡ Ok (Whole c) → ⊥
-lines_apart way [] states n k b c h g = cc
-lines_apart way (t ∷ ts) states n k b c h g =
-    line_apart way states n k b c (λ d. with_lines d (n + 1) ts) (λ d. with_lines d (k + 1) ts)
-    (λ s u v. lines_apart way ts (states ++ s ∷ []) (n + 1) (k + 1) b c u v) (without_lf t) h g
+lines_apart : (direction : Direction) (ts : List (List ℕ)) (states : List StateLine) (n k : ℕ) (b c : Sheet) →
+    with_lines (AtStates direction false states) n ts ≡ Ok (Whole b) → with_lines (AtStates direction true states) k ts ≡ Ok (Whole c) → ⊥
+lines_apart direction [] states n k b c h g = cc
+lines_apart direction (t ∷ ts) states n k b c h g =
+    line_apart direction states n k b c (λ d. with_lines d (n + 1) ts) (λ d. with_lines d (k + 1) ts)
+    (λ s u v. lines_apart direction ts (states ++ s ∷ []) (n + 1) (k + 1) b c u v) (without_lf t) h g
 
 -- the lines of a body are read after its head
 body_read : (m : Body) → is_formed m ≡ true → with_lines (AtStates Forward m.wide []) 2 (strict_lines (body_text m)) ≡ Ok (Whole (sheet_of Forward m))

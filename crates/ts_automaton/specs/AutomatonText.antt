@@ -3,8 +3,8 @@ use Rattle.std.specs.Prelude.{◌≡◌, ℕ, codes, ◌+◌, ◌/◌, ◌%◌, 
 use Rattle.std.specs.Prelude.{pos, map, slice_index_or, if◌then◌else◌}
 use Rattle.std.specs.List.{flat_map}
 use Rattle.std.specs.Ordering.{int_eq}
-use Rattle.ts_automaton.specs.declared.draft.Way.{Way}
-use Rattle.ts_automaton.specs.declared.draft.Way.TheVariants.{Forward, Reverse}
+use Rattle.ts_automaton.specs.declared.draft.Direction.{Direction}
+use Rattle.ts_automaton.specs.declared.draft.Direction.TheVariants.{Forward, Reverse}
 use Rattle.ts_automaton.specs.declared.draft.StateLine.{StateLine}
 use Rattle.ts_automaton.specs.declared.state.Mark.{Mark}
 use Rattle.ts_automaton.specs.declared.state.Mark.TheVariants.{Same, Zero as ZeroMark, Cells}
@@ -18,7 +18,7 @@ use Rattle.ts_automaton.specs.Body.{Move, Node, Body}
 
 -- the lines of a block: the moves stand for each state in order, on `<`, `=` and `>`
 pub record Sheet : Type 0 where
-  pub way : Way
+  pub direction : Direction
   pub wide : Bool
   pub states : List StateLine
   pub start : EachOf Ext
@@ -36,10 +36,10 @@ abbrev pub all_moves : List Node → List Move
 all_moves [] = []
 all_moves (s ∷ ss) = s.less ∷ s.equal ∷ s.greater ∷ all_moves ss
 
--- the block of an automaton, whose head names this way
-abbrev pub sheet_of : Way → Body → Sheet
-sheet_of way m = record {
-  way = way;
+-- the block of an automaton, whose head names this direction
+abbrev pub sheet_of : Direction → Body → Sheet
+sheet_of direction m = record {
+  direction = direction;
   wide = m.wide;
   states = state_lines m.states;
   start = m.start;
@@ -55,9 +55,9 @@ no_state = record { name = 0; held = false }
 abbrev pub name_at : List StateLine → ℕ → ℕ
 name_at states k = (slice_index_or states k no_state).name
 
-abbrev pub way_word : Way → List ℕ
-way_word Forward = codes "forward"
-way_word Reverse = codes "reverse"
+abbrev pub direction_word : Direction → List ℕ
+direction_word Forward = codes "forward"
+direction_word Reverse = codes "reverse"
 
 abbrev pub held_word : Bool → List ℕ
 held_word true = codes "held"
@@ -143,18 +143,18 @@ abbrev pub lines_text : List (List (List ℕ)) → List ℕ
 lines_text [] = []
 lines_text (l ∷ ls) = words_text l ++ lines_text ls
 
--- the way, and the width where it is wide
-abbrev pub head_words : Way → Bool → List (List ℕ)
-head_words way false = way_word way ∷ []
-head_words way true = way_word way ∷ codes "wide" ∷ []
+-- the direction, and the width where it is wide
+abbrev pub head_words : Direction → Bool → List (List ℕ)
+head_words direction false = direction_word direction ∷ []
+head_words direction true = direction_word direction ∷ codes "wide" ∷ []
 
-abbrev pub head_text : Way → Bool → List ℕ
-head_text way wide = words_text (head_words way wide)
+abbrev pub head_text : Direction → Bool → List ℕ
+head_text direction wide = words_text (head_words direction wide)
 
 -- the one body of an automaton
 abbrev pub body_text : Body → List ℕ
 body_text m = lines_text (body_lines m.wide (state_lines m.states) m.start (all_moves m.states) m.finish m.mark)
 
--- the text is the block of this automaton, under the head of either way
+-- the text is the block of this automaton, under the head of either direction
 abbrev pub IsBlockOf : List ℕ → Body → Type 0
-IsBlockOf text m = (way : Way) × (text ≡ head_text way m.wide ++ body_text m)
+IsBlockOf text m = (direction : Direction) × (text ≡ head_text direction m.wide ++ body_text m)

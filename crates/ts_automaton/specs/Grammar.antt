@@ -3,7 +3,7 @@ use Rattle.std.specs.Prelude.{◌≡◌, ◌≢◌, ◌⊎◌, ℕ, ◌+◌, ◌
 use Rattle.std.specs.Prelude.{List, [], ◌∷◌, ◌++◌, length, map, nat_lt}
 use Rattle.std.specs.List.{list_any, list_all}
 use Rattle.ts_base.specs.declared.ext.Ext.{Ext}
-use Rattle.ts_automaton.specs.declared.draft.Way.{Way}
+use Rattle.ts_automaton.specs.declared.draft.Direction.{Direction}
 use Rattle.ts_automaton.specs.declared.draft.StateLine.{StateLine}
 use Rattle.ts_automaton.specs.Registers.{EachOf}
 use Rattle.ts_automaton.specs.Body.{Move}
@@ -45,24 +45,24 @@ pub record IsSheet (b : Sheet) : Type 0 where
 -- the end, or nothing
 pub data Prefix : Type 0 where
   AtHead : Prefix
-  AtStates : Way → Bool → List StateLine → Prefix
-  AtMoves : Way → Bool → List StateLine → EachOf Ext → List Move → Prefix
+  AtStates : Direction → Bool → List StateLine → Prefix
+  AtMoves : Direction → Bool → List StateLine → EachOf Ext → List Move → Prefix
   AtEnd : Sheet → Prefix
   Whole : Sheet → Prefix
 
 -- these lines, from the head on
-abbrev pub front_words : Way → Bool → List StateLine → EachOf Ext → List Move → List (List (List ℕ))
-front_words way wide states start moves = head_words way wide ∷ lines_to_moves wide states start moves
+abbrev pub front_words : Direction → Bool → List StateLine → EachOf Ext → List Move → List (List (List ℕ))
+front_words direction wide states start moves = head_words direction wide ∷ lines_to_moves wide states start moves
 
 abbrev pub open_words : Sheet → List (List (List ℕ))
-open_words b = head_words b.way b.wide ∷ lines_to_finish b.wide b.states b.start b.moves b.finish b.mark
+open_words b = head_words b.direction b.wide ∷ lines_to_finish b.wide b.states b.start b.moves b.finish b.mark
 
 abbrev pub prefix_words : Prefix → List (List (List ℕ))
 prefix_words AtHead = []
-prefix_words (AtStates way wide states) = head_words way wide ∷ map state_words states
-prefix_words (AtMoves way wide states start moves) = front_words way wide states start moves
+prefix_words (AtStates direction wide states) = head_words direction wide ∷ map state_words states
+prefix_words (AtMoves direction wide states start moves) = front_words direction wide states start moves
 prefix_words (AtEnd b) = open_words b
-prefix_words (Whole b) = head_words b.way b.wide ∷ body_lines b.wide b.states b.start b.moves b.finish b.mark
+prefix_words (Whole b) = head_words b.direction b.wide ∷ body_lines b.wide b.states b.start b.moves b.finish b.mark
 
 pub record IsStates (states : List StateLine) : Type 0 where
   pub few : length states ≤ 8
@@ -75,8 +75,8 @@ pub record IsMoves (wide : Bool) (states : List StateLine) (start : EachOf Ext) 
 -- these lines are in the grammar
 abbrev pub IsPrefix : Prefix → Type 0
 IsPrefix AtHead = Unit {0}
-IsPrefix (AtStates way wide states) = IsStates states
-IsPrefix (AtMoves way wide states start moves) = IsMoves wide states start moves
+IsPrefix (AtStates direction wide states) = IsStates states
+IsPrefix (AtMoves direction wide states start moves) = IsMoves wide states start moves
 IsPrefix (AtEnd b) = IsSheet b
 IsPrefix (Whole b) = IsSheet b
 
@@ -93,8 +93,8 @@ pub record IsFirstBad (texts : List (List ℕ)) (number : ℕ) : Type 0 where
 
 abbrev pub IsOpen : Prefix → Type 0
 IsOpen AtHead = Unit {0}
-IsOpen (AtStates way wide states) = Unit {0}
-IsOpen (AtMoves way wide states start moves) = Unit {0}
+IsOpen (AtStates direction wide states) = Unit {0}
+IsOpen (AtMoves direction wide states start moves) = Unit {0}
 IsOpen (AtEnd b) = Unit {0}
 IsOpen (Whole b) = ⊥
 

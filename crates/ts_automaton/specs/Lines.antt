@@ -5,8 +5,8 @@ use Rattle.std.specs.List.{position}
 use Rattle.std.specs.Str.{bytes_eq}
 use Rattle.ts_base.specs.declared.ext.Ext.{Ext}
 use Rattle.ts_base.specs.declared.ext.Ext.TheVariants.{NegInf, Int, PosInf}
-use Rattle.ts_automaton.specs.declared.draft.Way.{Way}
-use Rattle.ts_automaton.specs.declared.draft.Way.TheVariants.{Forward, Reverse}
+use Rattle.ts_automaton.specs.declared.draft.Direction.{Direction}
+use Rattle.ts_automaton.specs.declared.draft.Direction.TheVariants.{Forward, Reverse}
 use Rattle.ts_automaton.specs.declared.draft.StateLine.{StateLine}
 use Rattle.ts_automaton.specs.declared.state.Mark.{Mark}
 use Rattle.ts_automaton.specs.declared.state.Mark.TheVariants.{Same, Zero as ZeroMark, Cells}
@@ -22,22 +22,22 @@ use Rattle.ts_automaton.specs.Grammar.{is_new}
 abbrev pub word_at : List (List ℕ) → ℕ → List ℕ
 word_at ws k = slice_index_or ws k []
 
-abbrev pub way_of : List ℕ → Option Way
-way_of w =
+abbrev pub direction_of : List ℕ → Option Direction
+direction_of w =
     if bytes_eq w (codes "forward") then Some Forward
     else (if bytes_eq w (codes "reverse") then Some Reverse
     else None)
 
-abbrev pub head_made : Bool → Option Way → Option (Way × Bool)
+abbrev pub head_made : Bool → Option Direction → Option (Direction × Bool)
 head_made wide None = None
-head_made wide (Some way) = Some (way, wide)
+head_made wide (Some direction) = Some (direction, wide)
 
--- the way that a head names, and whether the block is wide
-abbrev pub read_head : List (List ℕ) → Option (Way × Bool)
+-- the direction that a head names, and whether the block is wide
+abbrev pub read_head : List (List ℕ) → Option (Direction × Bool)
 read_head ws =
-    if length ws == 1 then head_made false (way_of (word_at ws 0))
+    if length ws == 1 then head_made false (direction_of (word_at ws 0))
     else (if length ws == 2
-    then (if bytes_eq (word_at ws 1) (codes "wide") then head_made true (way_of (word_at ws 0)) else None)
+    then (if bytes_eq (word_at ws 1) (codes "wide") then head_made true (direction_of (word_at ws 0)) else None)
     else None)
 
 abbrev pub held_of : List ℕ → Option Bool

@@ -4,7 +4,7 @@ use Rattle.std.specs.Prelude.{Option, Some, None, Result, Ok, Err}
 use Rattle.std.specs.Str.{bytes_eq}
 use Rattle.ts_base.specs.declared.ext.Ext.{Ext}
 use Rattle.ts_base.specs.Words.{strict_lines, without_lf, words_of, all_words}
-use Rattle.ts_automaton.specs.declared.draft.Way.{Way}
+use Rattle.ts_automaton.specs.declared.draft.Direction.{Direction}
 use Rattle.ts_automaton.specs.declared.draft.StateLine.{StateLine}
 use Rattle.ts_automaton.specs.declared.draft.Block.{Block}
 use Rattle.ts_automaton.specs.declared.draft.Prefix.{Prefix as HeldPrefix}
@@ -19,27 +19,29 @@ use Rattle.ts_automaton.specs.AutomatonText.{Sheet}
 use Rattle.ts_automaton.specs.Grammar.{Prefix, AtHead, AtStates, AtMoves, AtEnd, Whole}
 use Rattle.ts_automaton.specs.Lines.{word_at, read_head, read_state, read_start, read_move, read_finish, is_end}
 
-abbrev pub with_head : Option (Way × Bool) → Option Prefix
+abbrev pub with_head : Option (Direction × Bool) → Option Prefix
 with_head None = None
 with_head (Some h) = Some (AtStates h.0 h.1 [])
 
-abbrev pub with_state : Way → Bool → List StateLine → Option StateLine → Option Prefix
-with_state way wide states None = None
-with_state way wide states (Some n) =
-    if nat_lt (length states) 8 then Some (AtStates way wide (states ++ n ∷ [])) else None
+abbrev pub with_state : Direction → Bool → List StateLine → Option StateLine → Option Prefix
+with_state direction wide states None = None
+with_state direction wide states (Some n) =
+    if nat_lt (length states) 8 then Some (AtStates direction wide (states ++ n ∷ [])) else None
 
-abbrev pub with_start : Way → Bool → List StateLine → Option (EachOf Ext) → Option Prefix
-with_start way wide states None = None
-with_start way wide states (Some r) = if nat_lt 0 (length states) then Some (AtMoves way wide states r []) else None
+abbrev pub with_start : Direction → Bool → List StateLine → Option (EachOf Ext) → Option Prefix
+with_start direction wide states None = None
+with_start direction wide states (Some r) =
+    if nat_lt 0 (length states) then Some (AtMoves direction wide states r []) else None
 
-abbrev pub with_move : Way → Bool → List StateLine → EachOf Ext → List Move → Option Move → Option Prefix
-with_move way wide states start moves None = None
-with_move way wide states start moves (Some t) = Some (AtMoves way wide states start (moves ++ t ∷ []))
+abbrev pub with_move : Direction → Bool → List StateLine → EachOf Ext → List Move → Option Move → Option Prefix
+with_move direction wide states start moves None = None
+with_move direction wide states start moves (Some t) = Some (AtMoves direction wide states start (moves ++ t ∷ []))
 
-abbrev pub with_finish : Way → Bool → List StateLine → EachOf Ext → List Move → Option (Formula × Mark) → Option Prefix
-with_finish way wide states start moves None = None
-with_finish way wide states start moves (Some f) = Some (AtEnd (record {
-  way = way;
+abbrev pub with_finish : Direction → Bool → List StateLine → EachOf Ext → List Move → Option (Formula × Mark) →
+    Option Prefix
+with_finish direction wide states start moves None = None
+with_finish direction wide states start moves (Some f) = Some (AtEnd (record {
+  direction = direction;
   wide = wide;
   states = states;
   start = start;
@@ -54,14 +56,14 @@ is_state_line ws = bytes_eq (word_at ws 0) (codes "state")
 -- the prefix with the line of these words; None where that is against the grammar
 abbrev pub with_words : Prefix → List (List ℕ) → Option Prefix
 with_words AtHead ws = with_head (read_head ws)
-with_words (AtStates way wide states) ws =
+with_words (AtStates direction wide states) ws =
     if is_state_line ws
-    then with_state way wide states (read_state states ws)
-    else with_start way wide states (read_start wide ws)
-with_words (AtMoves way wide states start moves) ws =
+    then with_state direction wide states (read_state states ws)
+    else with_start direction wide states (read_start wide ws)
+with_words (AtMoves direction wide states start moves) ws =
     if nat_lt (length moves) (3 * length states)
-    then with_move way wide states start moves (read_move wide states (length moves) ws)
-    else with_finish way wide states start moves (read_finish wide ws)
+    then with_move direction wide states start moves (read_move wide states (length moves) ws)
+    else with_finish direction wide states start moves (read_finish wide ws)
 with_words (AtEnd b) ws = if is_end ws then Some (Whole b) else None
 with_words (Whole b) ws = None
 
@@ -85,8 +87,8 @@ with_lines d n (t ∷ ts) = onward n (with_line d t) (λ e. with_lines e (n + 1)
 abbrev pub end_sheet : ℕ → Result Prefix ℕ → Result Sheet ℕ
 end_sheet n (Err k) = Err k
 end_sheet n (Ok AtHead) = Err n
-end_sheet n (Ok (AtStates way wide states)) = Err n
-end_sheet n (Ok (AtMoves way wide states start moves)) = Err n
+end_sheet n (Ok (AtStates direction wide states)) = Err n
+end_sheet n (Ok (AtMoves direction wide states start moves)) = Err n
 end_sheet n (Ok (AtEnd b)) = Err n
 end_sheet n (Ok (Whole b)) = Ok b
 
@@ -97,7 +99,7 @@ sheet_reading text = end_sheet (length (strict_lines text) + 1) (with_lines AtHe
 -- what the code holds, as plain data
 abbrev pub sheet_seen : Block → Sheet
 sheet_seen b = record {
-  way = b.way;
+  direction = b.direction;
   wide = b.wide;
   states = b.states.items;
   start = regs_of b.start;
@@ -108,17 +110,17 @@ sheet_seen b = record {
 
 abbrev pub prefix_seen : HeldPrefix → Prefix
 prefix_seen HeldHead = AtHead
-prefix_seen (HeldStates way wide states) = AtStates way wide states.items
-prefix_seen (HeldMoves way wide states start moves) =
-    AtMoves way wide states.items (regs_of start) (map move_of moves.items)
+prefix_seen (HeldStates direction wide states) = AtStates direction wide states.items
+prefix_seen (HeldMoves direction wide states start moves) =
+    AtMoves direction wide states.items (regs_of start) (map move_of moves.items)
 prefix_seen (HeldEnd b) = AtEnd (sheet_seen b)
 prefix_seen (HeldWhole b) = Whole (sheet_seen b)
 
 -- at most eight states so far
 abbrev pub HasFew : Prefix → Type 0
 HasFew AtHead = Unit {0}
-HasFew (AtStates way wide states) = length states ≤ 8
-HasFew (AtMoves way wide states start moves) = length states ≤ 8
+HasFew (AtStates direction wide states) = length states ≤ 8
+HasFew (AtMoves direction wide states start moves) = length states ≤ 8
 HasFew (AtEnd b) = Unit {0}
 HasFew (Whole b) = Unit {0}
 

@@ -45,8 +45,8 @@ Reads text (Err Memory) = Unit {0}
 
 -- the same of a block in the grammar
 abbrev pub Judges : Sheet → Result Body AutoStop → Type 0
-Judges b (Ok m) = IsTrue (is_automaton m) × (sheet_of b.way m ≡ b)
+Judges b (Ok m) = IsTrue (is_automaton m) × (sheet_of b.direction m ≡ b)
 Judges b (Err (Text line)) = ⊥
 Judges b (Err (Typing line)) =
-    (m : Body) × (p : Place) × (sheet_of b.way m ≡ b) × (typing_fault m ≡ Some p) × (line ≡ line_of m p)
+    (m : Body) × (p : Place) × (sheet_of b.direction m ≡ b) × (typing_fault m ≡ Some p) × (line ≡ line_of m p)
 Judges b (Err Memory) = Unit {0}

@@ -44,10 +44,10 @@ fn judged(alloc: Global, block: Block) -> Result<Automaton, AutoStop>
 /// The parts of an automaton that has this block.
 fn parts_in(alloc: Global, block: Block) -> Result<Parts, Memory>
     requires { length block.moves.items ≡ 3 * length block.states.items }
-    ensures { IfOk result (λ p. sheet_of block.way (parts_of p) ≡ sheet_seen block) }
+    ensures { IfOk result (λ p. sheet_of block.direction (parts_of p) ≡ sheet_seen block) }
 {
     let Block {
-        way: _,
+        direction: _,
         wide,
         states: lines,
         start,

@@ -7,7 +7,7 @@ use std::collections::VecDeque;
 
 /// The order in which the cells are read, which the head line of a block names. It isn't part of the automaton.
 #[derive(Clone, Copy, Debug, PartialEq, Eq)]
-pub enum Way {
+pub enum Direction {
     Forward,
     Reverse,
 }
@@ -22,7 +22,7 @@ pub struct StateLine {
 /// The lines of a block: its moves stand for each state in order, on `<`, `=` and `>`.
 #[derive(Drop)]
 pub(crate) struct Block {
-    pub(crate) way: Way,
+    pub(crate) direction: Direction,
     pub(crate) wide: bool,
     pub(crate) states: Vec<StateLine>,
     pub(crate) start: Regs,
@@ -37,12 +37,12 @@ pub(crate) struct Block {
 pub(crate) enum Prefix {
     AtHead,
     AtStates {
-        way: Way,
+        direction: Direction,
         wide: bool,
         states: Vec<StateLine>,
     },
     AtMoves {
-        way: Way,
+        direction: Direction,
         wide: bool,
         states: Vec<StateLine>,
         start: Regs,

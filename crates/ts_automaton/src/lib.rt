@@ -41,7 +41,7 @@ mod writer;
 pub use automaton::Automaton;
 pub use automaton_text::read;
 pub use differences::{difference, difference_span};
-pub use draft::{StateLine, Way};
+pub use draft::{Direction, StateLine};
 pub use expr::{Atom, Expr, Operator};
 pub use kind::RegKind;
 pub use regs::{At, Hull, HullAt, Regs};

@@ -7,42 +7,42 @@ ghost use Rattle.ts_automaton.specs.Registers.{regs_of};
 ghost use Rattle.ts_automaton.specs.Typing.{is_name};
 ghost use Rattle.ts_automaton.specs.AutomatonText.{name_at};
 ghost use Rattle.ts_automaton.specs.Grammar.{is_named};
-ghost use Rattle.ts_automaton.specs.Lines.{way_of, head_made, read_head, held_of, only_byte, new_name, read_state, constant_of, constant_at, stride, extra, all_five, read_start, is_end};
+ghost use Rattle.ts_automaton.specs.Lines.{direction_of, head_made, read_head, held_of, only_byte, new_name, read_state, constant_of, constant_at, stride, extra, all_five, read_start, is_end};
 
-use crate::draft::{StateLine, Way};
+use crate::draft::{Direction, StateLine};
 use crate::line_words::{word_at, word_count};
 use crate::regs::Regs;
 use ts_base::Ext;
 
-/// The way that a word names.
-fn way_of(word: &[u8]) -> Option<Way>
-    ensures { result ≡ way_of word.now }
+/// The direction that a word names.
+fn direction_of(word: &[u8]) -> Option<Direction>
+    ensures { result ≡ direction_of word.now }
 {
     if word == b"forward".as_slice() {
-        Some(Way::Forward)
+        Some(Direction::Forward)
     } else if word == b"reverse".as_slice() {
-        Some(Way::Reverse)
+        Some(Direction::Reverse)
     } else {
         None
     }
 }
 
-/// The way, if there is one, with the width.
-fn head_made(wide: bool, way: Option<Way>) -> Option<(Way, bool)>
-    ensures { result ≡ head_made wide way }
+/// The direction, if there is one, with the width.
+fn head_made(wide: bool, direction: Option<Direction>) -> Option<(Direction, bool)>
+    ensures { result ≡ head_made wide direction }
 {
-    match way {
+    match direction {
         None => None,
-        Some(way) => Some((way, wide)),
+        Some(direction) => Some((direction, wide)),
     }
 }
 
-/// The way that a head line names, and whether the block is wide.
-pub(crate) fn read_head(words: &[&[u8]]) -> Option<(Way, bool)>
+/// The direction that a head line names, and whether the block is wide.
+pub(crate) fn read_head(words: &[&[u8]]) -> Option<(Direction, bool)>
     ensures { result ≡ read_head (texts words.now) }
 {
     if word_count(words) == 1 {
-        return head_made(false, way_of(word_at(words, 0)));
+        return head_made(false, direction_of(word_at(words, 0)));
     }
     if word_count(words) != 2 {
         return None;
@@ -50,7 +50,7 @@ pub(crate) fn read_head(words: &[&[u8]]) -> Option<(Way, bool)>
     if word_at(words, 1) != b"wide".as_slice() {
         return None;
     }
-    head_made(true, way_of(word_at(words, 0)))
+    head_made(true, direction_of(word_at(words, 0)))
 }
 
 /// Whether a state is held, by the last word of its line.

@@ -7,7 +7,7 @@ ghost use Rattle.ts_automaton.specs.Body.{move_of};
 ghost use Rattle.ts_automaton.specs.Grammar.{AtStates, AtMoves};
 ghost use Rattle.ts_automaton.specs.Reading.{is_state_line, with_words, with_line, end_sheet, sheet_reading, prefix_seen, HasFew, ReadsSheet};
 
-use crate::draft::{Block, Prefix, StateLine, Way};
+use crate::draft::{Block, Direction, Prefix, StateLine};
 use crate::line_words::{word_at, word_count, words_in};
 use crate::lines::{is_end, read_head, read_start, read_state};
 use crate::move_lines::{read_finish, read_move};
@@ -28,26 +28,30 @@ fn is_state_line(words: &[&[u8]]) -> bool
 /// The states with one more, or all of them with the start constants.
 fn named(
     alloc: Global,
-    way: Way,
+    direction: Direction,
     wide: bool,
     mut states: Vec<StateLine>,
     words: &[&[u8]],
 ) -> Result<Option<Prefix>, Memory>
     ensures { IfOk result (λ d.
-        option_map prefix_seen d ≡ with_words (AtStates way wide states.items) (texts words.now)) }
+        option_map prefix_seen d ≡ with_words (AtStates direction wide states.items) (texts words.now)) }
 {
     if is_state_line(words) {
         match read_state(&states, words) {
             Some(name) if states.len() < 8 => {
                 states.push(name)?;
-                Ok(Some(Prefix::AtStates { way, wide, states }))
+                Ok(Some(Prefix::AtStates {
+                    direction,
+                    wide,
+                    states,
+                }))
             }
             _ => Ok(None),
         }
     } else {
         match read_start(words, wide) {
             Some(start) if states.len() > 0 => Ok(Some(Prefix::AtMoves {
-                way,
+                direction,
                 wide,
                 states,
                 start,
@@ -61,7 +65,7 @@ fn named(
 /// The moves with one more, or all of them with the finish expression.
 fn moved(
     alloc: Global,
-    way: Way,
+    direction: Direction,
     wide: bool,
     states: Vec<StateLine>,
     start: Regs,
@@ -69,7 +73,7 @@ fn moved(
     words: &[&[u8]],
 ) -> Result<Option<Prefix>, Memory>
     requires { length states.items ≤ 8 }
-    ensures { let before = AtMoves way wide states.items (regs_of start) (map move_of moves.items) in
+    ensures { let before = AtMoves direction wide states.items (regs_of start) (map move_of moves.items) in
         IfOk result (λ d. option_map prefix_seen d ≡ with_words before (texts words.now)) }
 {
     if moves.len() < 3 * states.len() {
@@ -78,7 +82,7 @@ fn moved(
             Some(turn) => {
                 moves.push_back(turn)?;
                 Ok(Some(Prefix::AtMoves {
-                    way,
+                    direction,
                     wide,
                     states,
                     start,
@@ -90,7 +94,7 @@ fn moved(
         match read_finish(alloc, words, wide)? {
             None => Ok(None),
             Some((finish, mark)) => Ok(Some(Prefix::AtEnd(Block {
-                way,
+                direction,
                 wide,
                 states,
                 start,
@@ -110,20 +114,24 @@ fn with_words(alloc: Global, prefix: Prefix, words: &[&[u8]]) -> Result<Option<P
     match prefix {
         Prefix::AtHead => match read_head(words) {
             None => Ok(None),
-            Some((way, wide)) => Ok(Some(Prefix::AtStates {
-                way,
+            Some((direction, wide)) => Ok(Some(Prefix::AtStates {
+                direction,
                 wide,
                 states: Vec::new(alloc),
             })),
         },
-        Prefix::AtStates { way, wide, states } => named(alloc, way, wide, states, words),
+        Prefix::AtStates {
+            direction,
+            wide,
+            states,
+        } => named(alloc, direction, wide, states, words),
         Prefix::AtMoves {
-            way,
+            direction,
             wide,
             states,
             start,
             moves,
-        } => moved(alloc, way, wide, states, start, moves, words),
+        } => moved(alloc, direction, wide, states, start, moves, words),
         Prefix::AtEnd(block) => {
             if is_end(words) {
                 Ok(Some(Prefix::Whole(block)))

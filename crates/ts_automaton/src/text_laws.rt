@@ -3,7 +3,7 @@
 ghost use Rattle.std.specs.Prelude.{◌≡◌, ◌≢◌, ◌++◌, ◌↔◌, ℕ, Bool, IsTrue, List, Some, Ok, Err, Result};
 ghost use Rattle.ts_automaton.specs.declared.stop.AutoStop.{AutoStop};
 ghost use Rattle.ts_automaton.specs.declared.stop.AutoStop.TheVariants.{Memory as NoMemory};
-ghost use Rattle.ts_automaton.specs.declared.draft.Way.{Way as TheWay};
+ghost use Rattle.ts_automaton.specs.declared.draft.Direction.{Direction as TheWay};
 ghost use Rattle.ts_automaton.specs.Body.{Body};
 ghost use Rattle.ts_automaton.specs.Formula.{Formula};
 ghost use Rattle.ts_automaton.specs.FormulaText.{formula_words, formula_of};
@@ -26,8 +26,8 @@ pub fn text_has_one_reading()
 
 /// What was written after either head is read as the same automaton.
 pub fn written_is_read()
-    ensures { (m : Body) (way : TheWay) (r : Result Body AutoStop) → IsTrue (is_automaton m) →
-        Reads (head_text way m.wide ++ body_text m) r → r ≢ Err NoMemory → r ≡ Ok m }
+    ensures { (m : Body) (direction : TheWay) (r : Result Body AutoStop) → IsTrue (is_automaton m) →
+        Reads (head_text direction m.wide ++ body_text m) r → r ≢ Err NoMemory → r ≡ Ok m }
 {}
 
 /// An automaton has one body, and a body is that of one automaton.

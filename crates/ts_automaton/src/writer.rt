@@ -9,7 +9,7 @@ ghost use Rattle.ts_automaton.specs.AutomatonText.{state_lines, all_moves, name_
 ghost use Rattle.ts_automaton.specs.AutomatonText.{move_words, moves_words, part_words, finish_words, words_text, lines_text, head_text, body_text};
 
 use crate::automaton::Automaton;
-use crate::draft::Way;
+use crate::draft::Direction;
 use crate::expr::Expr;
 use crate::expr_text::push_expr;
 use crate::move_lines::sign_word;
@@ -19,15 +19,15 @@ use crate::state::{Mark, State, Turn};
 use ts_base::{Ext, Memory};
 
 /// Appends the head line of a block of this width to `text`, which stays as it is after `Memory`.
-pub fn write_head(way: Way, wide: bool, text: &mut Vec<u8>) -> Result<(), Memory>
-    ensures ok { OnOk result (text.new.items ≡ text.old.items ++ head_text way wide) }
+pub fn write_head(direction: Direction, wide: bool, text: &mut Vec<u8>) -> Result<(), Memory>
+    ensures ok { OnOk result (text.new.items ≡ text.old.items ++ head_text direction wide) }
     ensures err { OnErr result (text.new.items ≡ text.old.items) }
 {
-    match (way, wide) {
-        (Way::Forward, false) => text.extend_from_slice(b"forward\n")?,
-        (Way::Reverse, false) => text.extend_from_slice(b"reverse\n")?,
-        (Way::Forward, true) => text.extend_from_slice(b"forward wide\n")?,
-        (Way::Reverse, true) => text.extend_from_slice(b"reverse wide\n")?,
+    match (direction, wide) {
+        (Direction::Forward, false) => text.extend_from_slice(b"forward\n")?,
+        (Direction::Reverse, false) => text.extend_from_slice(b"reverse\n")?,
+        (Direction::Forward, true) => text.extend_from_slice(b"forward wide\n")?,
+        (Direction::Reverse, true) => text.extend_from_slice(b"reverse wide\n")?,
     }
     Ok(())
 }

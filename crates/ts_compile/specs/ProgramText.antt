@@ -9,7 +9,7 @@ use Rattle.ts_base.specs.declared.range.Range.{Range}
 use Rattle.ts_model.specs.declared.model.ModelTerm.{ModelTerm}
 use Rattle.ts_pattern.specs.Names.{aggregator_name, feature_name, pattern_name}
 use Rattle.ts_automaton.specs.Body.{Body}
-use Rattle.ts_automaton.specs.declared.draft.Way.TheVariants.{Forward, Reverse}
+use Rattle.ts_automaton.specs.declared.draft.Direction.TheVariants.{Forward, Reverse}
 use Rattle.ts_automaton.specs.AutomatonText.{state_lines, name_at, words_text, lines_text, head_text, body_text}
 use Rattle.ts_glue.specs.declared.table.FoldOp.{FoldOp}
 use Rattle.ts_glue.specs.declared.table.FoldOp.TheVariants.{Add, Max, Min, Pair as Apart}

@@ -8,7 +8,7 @@ ghost use Rattle.ts_glue.specs.Pairs.{pair, table_view};
 ghost use Rattle.ts_glue.specs.Rules.{has_join_states};
 
 use crate::words::push_word;
-use ts_automaton::{Automaton, Way, write, write_head};
+use ts_automaton::{Automaton, Direction, write, write_head};
 use ts_base::{Join, Memory};
 use ts_glue::{CellUnit, FoldOp, GlueTable, Machine};
 
@@ -34,7 +34,7 @@ fn push_glued(
     ensures { let split = Some (pair forward.now reverse.now (table_view table.now)) in
         OnOk result (text.new.items ≡ text.old.items ++ reverse_text split) }
 {
-    write_head(Way::Reverse, reverse.wide(), text)?;
+    write_head(Direction::Reverse, reverse.wide(), text)?;
     write(reverse, text)?;
     push_glue(text, table)?;
     push_joins(text, forward, reverse, &table.joins)?;

@@ -13,7 +13,7 @@ use crate::glue_text::push_reverse;
 use crate::program::Program;
 use crate::words::push_word;
 use std::alloc::Global;
-use ts_automaton::{Way, write, write_head};
+use ts_automaton::{Direction, write, write_head};
 use ts_base::{Memory, Range, push_number};
 use ts_glue::Machine;
 use ts_model::{Model, ModelTerm};
@@ -46,7 +46,7 @@ fn push_part(
 {
     push_term(text, name, t)?;
     let forward = machine.forward();
-    write_head(Way::Forward, forward.wide(), text)?;
+    write_head(Direction::Forward, forward.wide(), text)?;
     write(forward, text)?;
     push_reverse(text, machine)?;
     Ok(())

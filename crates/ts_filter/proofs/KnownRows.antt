@@ -14,8 +14,8 @@ use Rattle.ts_bound.proofs.TableLaws.{length-forward, length-row_of, row_on}
 use Rattle.ts_sweep.specs.Sides.{Sides}
 use Rattle.ts_glue.specs.Pairs.{Pair}
 use Rattle.ts_filter.specs.Boxes.{Box}
-use Rattle.ts_filter.specs.declared.reading.Way.{Way}
-use Rattle.ts_filter.specs.declared.reading.Way.TheVariants.{FromFirst, FromLast}
+use Rattle.ts_filter.specs.declared.reading.Direction.{Direction}
+use Rattle.ts_filter.specs.declared.reading.Direction.TheVariants.{FromFirst, FromLast}
 use Rattle.ts_filter.specs.KnownRows.{AreFirst, AreBehind}
 use Rattle.ts_filter.specs.Reading.{in_order}
 use Rattle.ts_filter.specs.RowStacks.{IsSound, Rows, Sight, next_seen, rows_seen, sight}
@@ -32,7 +32,7 @@ reverse_drop d xs =
     sym (ap (λ l. take (length xs - d) (reverse l)) (sym (take-append-drop d xs)) ∙ ap (take (length xs - d)) (reverse-append (take d xs) (drop d xs))
     ∙ take_at (reverse (drop d xs)) (reverse (take d xs)) (length xs - d) (length-reverse (drop d xs) ∙ length-drop d xs))
 
-pub order_long : (w : Way) (b : Box) → length (in_order w b) ≡ length b
+pub order_long : (w : Direction) (b : Box) → length (in_order w b) ≡ length b
 order_long FromFirst b = refl
 order_long FromLast b = length-reverse b
 

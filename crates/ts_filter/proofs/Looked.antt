@@ -10,8 +10,8 @@ use Rattle.ts_bound.specs.TermSpans.{Automata, LooksIn, automata_of, inner_span,
 use Rattle.ts_bound.proofs.Looking.{ends_inside, looked_bounds, looked_by, looked_get, looked_length, place_end, place_inside, place_read, read_inside, read_inside_box, read_outside}
 use Rattle.ts_glue.specs.declared.machine.Machine.{Machine}
 use Rattle.ts_glue.specs.Machines.{window_of}
-use Rattle.ts_filter.specs.declared.reading.Way.{Way}
-use Rattle.ts_filter.specs.declared.reading.Way.TheVariants.{FromFirst, FromLast}
+use Rattle.ts_filter.specs.declared.reading.Direction.{Direction}
+use Rattle.ts_filter.specs.declared.reading.Direction.TheVariants.{FromFirst, FromLast}
 use Rattle.ts_filter.specs.Boxes.{Box, HasCell, values_at}
 use Rattle.ts_filter.specs.CellHulls.{HasHulls}
 use Rattle.ts_filter.specs.Reading.{in_order}
@@ -53,13 +53,15 @@ backward_cell w b i k h more is =
     let there = forward_cell w b j k h (omega (arith, lt)) (omega (arith, is, lt, long, first)) in
     (there.0, there.1, there.2 ∙ sym (get_or-reverse (looked_at w b) i [] lt))
 
-pub read_forward : (way : Way) (w : Option Range) (b : Box) (i k : ℕ) → way ≡ FromFirst → LooksInside (length b) w → i < length (in_order way (looked_at w b)) →
-    k ≡ first_looked w + i → (1 ≤ k) × (k ≤ length b) × (values_at k b ≡ get_or (in_order way (looked_at w b)) i [])
+pub read_forward : (direction : Direction) (w : Option Range) (b : Box) (i k : ℕ) → direction ≡ FromFirst → LooksInside (length b) w →
+    i < length (in_order direction (looked_at w b)) →
+    k ≡ first_looked w + i → (1 ≤ k) × (k ≤ length b) × (values_at k b ≡ get_or (in_order direction (looked_at w b)) i [])
 read_forward FromFirst w b i k e h lt is = forward_cell w b i k h lt is
 read_forward FromLast w b i k e h lt is = cc
 
-pub read_backward : (way : Way) (w : Option Range) (b : Box) (i k : ℕ) → way ≡ FromLast → LooksInside (length b) w → i < length (in_order way (looked_at w b)) →
-    k ≡ last_looked w (length b) - i → (1 ≤ k) × (k ≤ length b) × (values_at k b ≡ get_or (in_order way (looked_at w b)) i [])
+pub read_backward : (direction : Direction) (w : Option Range) (b : Box) (i k : ℕ) → direction ≡ FromLast → LooksInside (length b) w →
+    i < length (in_order direction (looked_at w b)) →
+    k ≡ last_looked w (length b) - i → (1 ≤ k) × (k ≤ length b) × (values_at k b ≡ get_or (in_order direction (looked_at w b)) i [])
 read_backward FromFirst w b i k e h lt is = cc
 read_backward FromLast w b i k e h lt is = backward_cell w b i k h lt is
 

@@ -9,7 +9,7 @@ use Rattle.ts_glue.specs.Pairs.{Pair}
 use Rattle.ts_meet.specs.declared.joints.Joints.{Joints}
 use Rattle.ts_meet.specs.Joints.{AreJoints}
 use Rattle.ts_model.specs.declared.model.Require.{Require}
-use Rattle.ts_filter.specs.declared.reading.Way.TheVariants.{FromFirst, FromLast}
+use Rattle.ts_filter.specs.declared.reading.Direction.TheVariants.{FromFirst, FromLast}
 use Rattle.ts_filter.specs.AnyRows.{form_sides}
 use Rattle.ts_filter.specs.Boxes.{Box}
 use Rattle.ts_filter.specs.Drops.{IsFirstOf}

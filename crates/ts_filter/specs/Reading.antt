@@ -2,17 +2,17 @@
 use Rattle.std.specs.Prelude.{◌≡◌, ◌<◌, ◌-◌, ℕ, ℤ, List, [], get_or, reverse}
 use Rattle.ts_base.specs.Windows.{looked_at}
 use Rattle.ts_filter.specs.declared.reading.Reading.{Reading}
-use Rattle.ts_filter.specs.declared.reading.Way.{Way}
-use Rattle.ts_filter.specs.declared.reading.Way.TheVariants.{FromFirst, FromLast}
+use Rattle.ts_filter.specs.declared.reading.Direction.{Direction}
+use Rattle.ts_filter.specs.declared.reading.Direction.TheVariants.{FromFirst, FromLast}
 use Rattle.ts_filter.specs.Boxes.{Box}
 
 -- the cells in that order
-abbrev pub in_order : Way → Box → Box
+abbrev pub in_order : Direction → Box → Box
 in_order FromFirst b = b
 in_order FromLast b = reverse b
 
 abbrev pub cells_read : Reading → Box
-cells_read r = in_order r.way (looked_at r.window r.cells.now.present)
+cells_read r = in_order r.direction (looked_at r.window r.cells.now.present)
 
 -- the values of the cell before the one at place i, if there is one
 abbrev pub IsBefore : Box → ℕ → List ℤ → Type 0

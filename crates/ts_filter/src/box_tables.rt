@@ -24,7 +24,7 @@ use crate::gone::Change;
 use crate::held_machine::HeldMachine;
 use crate::others::Others;
 use crate::question::Question;
-use crate::reading::{Reading, Way};
+use crate::reading::{Direction, Reading};
 use crate::row_stack::RowStack;
 use crate::rows::make_rows;
 use crate::term_requirements::TermRequirements;
@@ -136,12 +136,12 @@ impl<'a> BoxTables<'a> {
         let ahead = Reading {
             cells,
             window,
-            way: Way::FromFirst,
+            direction: Direction::FromFirst,
         };
         let behind = Reading {
             cells,
             window,
-            way: Way::FromLast,
+            direction: Direction::FromLast,
         };
         let unreached = change.count - change.last;
         let reached = change.count - change.first;
@@ -383,7 +383,7 @@ impl<'a> BoxTables<'a> {
         let reading = Reading {
             cells,
             window: machine.window(),
-            way: Way::FromFirst,
+            direction: Direction::FromFirst,
         };
         make_rows(alloc, &mut self.ahead, machine.forward(), reading, count)
     }
@@ -404,7 +404,7 @@ impl<'a> BoxTables<'a> {
         let reading = Reading {
             cells,
             window: machine.window(),
-            way: Way::FromLast,
+            direction: Direction::FromLast,
         };
         match machine.reverse() {
             Some(reverse) => make_rows(alloc, &mut self.behind, reverse, reading, count),

@@ -10,7 +10,7 @@ use ts_domain::{Boxed, Domain};
 
 /// The order in which the cells are read.
 #[derive(Clone, Copy)]
-pub(crate) enum Way {
+pub(crate) enum Direction {
     FromFirst,
     FromLast,
 }
@@ -20,7 +20,7 @@ pub(crate) enum Way {
 pub(crate) struct Reading<'a> {
     pub(crate) cells: &'a Boxed,
     pub(crate) window: Option<Range>,
-    pub(crate) way: Way,
+    pub(crate) direction: Direction,
     pub(crate) ghost looks: { LooksInside (length cells.now.present) window } by { Prim.hlevel props },
 }
 
@@ -51,9 +51,9 @@ impl<'a> Reading<'a> {
         ensures values { values_at result self.entry.cells.now.present ≡ get_or (cells_read self.entry) i [] }
     {
         let (first, last) = ends(self.window, self.cells.cells());
-        match self.way {
-            Way::FromFirst => first + i as u32,
-            Way::FromLast => last - i as u32,
+        match self.direction {
+            Direction::FromFirst => first + i as u32,
+            Direction::FromLast => last - i as u32,
         }
     }
 }

@@ -1,7 +1,7 @@
 //! Texts that are read and written again, and texts that are refused, each line told worked out by hand.
 
 use std::alloc::Global;
-use ts_automaton::{AutoStop, Automaton, Way, read, write, write_head};
+use ts_automaton::{AutoStop, Automaton, Direction, read, write, write_head};
 use ts_base::Memory;
 
 /// The first is the automaton that adds up the widths of peaks.
@@ -124,7 +124,7 @@ fn refused_rows() -> &'static [&'static str] {
 }
 
 /// The text of an automaton.
-fn written(alloc: Global, way: Way, automaton: &Automaton) -> Result<Vec<u8>, Memory> {
+fn written(alloc: Global, way: Direction, automaton: &Automaton) -> Result<Vec<u8>, Memory> {
     let mut text = Vec::new(alloc);
     write_head(way, automaton.wide(), &mut text)?;
     write(automaton, &mut text)?;
@@ -134,9 +134,9 @@ fn written(alloc: Global, way: Way, automaton: &Automaton) -> Result<Vec<u8>, Me
 /// Whether a text is read, and written again as it was.
 fn is_taken(alloc: Global, text: &str) -> Result<bool, Memory> {
     let way = if text.starts_with("forward") {
-        Way::Forward
+        Direction::Forward
     } else {
-        Way::Reverse
+        Direction::Reverse
     };
     match read(alloc, text.as_bytes()) {
         Ok(automaton) => Ok(written(alloc, way, &automaton)?.as_slice() == text.as_bytes()),

@@ -40,7 +40,7 @@ pub(super) fn held() -> &'static str {
 
 /// How the lines of a model are read.
 #[derive(Clone, Copy)]
-enum Way {
+enum Direction {
     Together,
     OneByOne,
     /// By what is kept of each.
@@ -65,7 +65,11 @@ pub(super) fn is_held(alloc: Global, row: &[u8]) -> Result<bool, Memory> {
     if text.len() >= 10_000 {
         return Ok(false);
     }
-    for way in [Way::Together, Way::OneByOne, Way::Shortened] {
+    for way in [
+        Direction::Together,
+        Direction::OneByOne,
+        Direction::Shortened,
+    ] {
         if told(alloc, read_by(alloc, &text, way))?.as_bytes() != want {
             return Ok(false);
         }
@@ -73,13 +77,13 @@ pub(super) fn is_held(alloc: Global, row: &[u8]) -> Result<bool, Memory> {
     Ok(true)
 }
 
-fn read_by(alloc: Global, text: &[u8], way: Way) -> Result<Model, ModelStop>
+fn read_by(alloc: Global, text: &[u8], way: Direction) -> Result<Model, ModelStop>
     requires { length text.now < 10000 }
 {
     match way {
-        Way::Together => read_model(alloc, text, Need::Values),
-        Way::OneByOne => read_by_lines(alloc, text, false),
-        Way::Shortened => read_by_lines(alloc, text, true),
+        Direction::Together => read_model(alloc, text, Need::Values),
+        Direction::OneByOne => read_by_lines(alloc, text, false),
+        Direction::Shortened => read_by_lines(alloc, text, true),
     }
 }
 

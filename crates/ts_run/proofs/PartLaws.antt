@@ -4,7 +4,7 @@ use Rattle.std.specs.Prelude.{option_map, string_bytes}
 use Rattle.std.specs.Global.{Global}
 use Rattle.ts_pattern.specs.declared.name.PatternId.{PatternId}
 use Rattle.ts_seed.specs.SeedTable.{seed_table}
-use Rattle.ts_automaton.specs.declared.draft.Way.TheVariants.{Forward, Reverse}
+use Rattle.ts_automaton.specs.declared.draft.Direction.TheVariants.{Forward, Reverse}
 use Rattle.ts_automaton.specs.AutomatonText.{body_text}
 use Rattle.ts_model.specs.declared.model.ModelTerm.{ModelTerm}
 use Rattle.ts_compile.proofs.Over.{answers_over, glues_over}

@@ -7,7 +7,7 @@ use Rattle.std.specs.Prelude.{String, string_bytes}
 use Rattle.std.specs.Global.{Global}
 use Rattle.ts_pattern.specs.declared.name.PatternId.{PatternId}
 use Rattle.ts_seed.specs.SeedTable.{seed_table}
-use Rattle.ts_automaton.specs.declared.draft.Way.TheVariants.{Forward, Reverse}
+use Rattle.ts_automaton.specs.declared.draft.Direction.TheVariants.{Forward, Reverse}
 use Rattle.ts_automaton.specs.AutomatonText.{head_text, words_text}
 use Rattle.ts_automaton.specs.Body.{Body}
 use Rattle.ts_automaton.specs.TextReading.{Reads}

@@ -1,5 +1,5 @@
 use Rattle.std.proofs.Common.{codes, map, ap, ◌∙◌, ◌++◌}
-use Rattle.ts_automaton.specs.declared.draft.Way.TheVariants.{Reverse}
+use Rattle.ts_automaton.specs.declared.draft.Direction.TheVariants.{Reverse}
 use Rattle.ts_automaton.specs.AutomatonText.{words_text, lines_text, head_text, body_text}
 use Rattle.ts_glue.specs.Pairs.{table_view}
 use Rattle.ts_compile.specs.ProgramText.{glue_words, join_words}

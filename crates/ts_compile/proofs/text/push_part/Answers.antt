@@ -1,6 +1,6 @@
 use Rattle.std.proofs.Common.{ap, ◌∙◌, ◌++◌}
 use Rattle.std.specs.String.{string_bytes}
-use Rattle.ts_automaton.specs.declared.draft.Way.TheVariants.{Forward}
+use Rattle.ts_automaton.specs.declared.draft.Direction.TheVariants.{Forward}
 use Rattle.ts_automaton.specs.AutomatonText.{words_text, head_text, body_text}
 use Rattle.ts_glue.specs.Machines.{forward_of, pair_of}
 use Rattle.ts_compile.specs.ProgramText.{term_words, reverse_text}

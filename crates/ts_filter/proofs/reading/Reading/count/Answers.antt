@@ -9,4 +9,4 @@ pub returns : goal.returns
 returns c =
     let r = c.args.self in let b = r.cells.now.present in
     c.looked_count.ensures ∙ ap (count_looked r.window) c.cells.ensures.count ∙ sym (looked_length r.window b r.looks)
-    ∙ sym (order_long r.way (looked_at r.window b))
+    ∙ sym (order_long r.direction (looked_at r.window b))
