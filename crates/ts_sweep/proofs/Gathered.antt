@@ -1,6 +1,6 @@
 -- What a sweep gathers step by step is the total by value, in both directions.
 use Rattle.std.proofs.Common.{◌≡◌, ℕ, zero, suc, ◌-◌, ◌<◌, ◌≤◌, ◌⊎◌, inl, inr, Bool, true, false, cond, nat_lt, refl, sym, ap, ◌∙◌, arith}
-use Rattle.ts_sweep.specs.Sweeps.{total, gathered, place}
+use Rattle.ts_sweep.specs.Sweeps.{total, gathered, step_place}
 
 not_below : (a b : ℕ) → b ≤ a → nat_lt a b ≡ false
 not_below a b h = grind arith
@@ -74,7 +74,7 @@ module _ {X : Type 0} (both : X → X → X) (none : X) (assoc : (a b c : X) →
       same i c = grind arith
 
   -- in both directions
-  pub gathered_total : (up : Bool) (test : ℕ → Bool) (n c : ℕ) → c ≤ n → ((i : ℕ) → i < n → test (place up n i) ≡ nat_lt i c) →
+  pub gathered_total : (up : Bool) (test : ℕ → Bool) (n c : ℕ) → c ≤ n → ((i : ℕ) → i < n → test (step_place up n i) ≡ nat_lt i c) →
       total both none test f n ≡ gathered both none up f n c
   gathered_total true test n c h t = up_total test n c h t
   gathered_total false test n c h t = down_total test n c h t
@@ -83,4 +83,5 @@ module _ {X : Type 0} (both : X → X → X) (none : X) (assoc : (a b c : X) →
   pub gathered_takes : (up : Bool) (n c : ℕ) → both none none ≡ none → both (gathered both none up f n c) none ≡ gathered both none up f n c
   unfolding gathered
   gathered_takes up n zero h = h
-  gathered_takes up n (suc c) h = swap (gathered both none up f n c) (f (place up n c)) none ∙ ap (λ x. both x (f (place up n c))) (gathered_takes up n c h)
+  gathered_takes up n (suc c) h =
+      swap (gathered both none up f n c) (f (step_place up n c)) none ∙ ap (λ x. both x (f (step_place up n c))) (gathered_takes up n c h)

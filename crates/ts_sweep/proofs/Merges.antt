@@ -4,7 +4,7 @@ use Rattle.std.proofs.lemmas.Int.{ints}
 use mir.Val.{of_z, to_z}
 use mir.Syntax.{w64}
 use Rattle.ts_sweep.specs.Small.{IsSmall}
-use Rattle.ts_sweep.specs.Sweeps.{total, gathered, place, passes, bound_of, passed_hull, IsSteppedTo, IsTakenIn}
+use Rattle.ts_sweep.specs.Sweeps.{total, gathered, step_place, passes, bound_of, passed_hull, IsSteppedTo, IsTakenIn}
 use Rattle.ts_sweep.proofs.Gathered.{gathered_takes, gathered_total}
 use Rattle.ts_sweep.proofs.RunSteps.{as_passed, begins, steps, ends, place_place}
 
@@ -37,7 +37,7 @@ Rising : (ℕ → ℤ) → ℕ → Type 0
 Rising value n = (i j : ℕ) → i < j → j < n → value i <ℤ value j
 
 in_order : (up : Bool) (value : ℕ → ℤ) (n i j : ℕ) → ((i j : ℕ) → i < j → j < n → value i <ℤ value j) → i < j → j < n →
-    Before up (value (place up n i)) (value (place up n j))
+    Before up (value (step_place up n i)) (value (step_place up n j))
 in_order true value n i j rises lt inside = rises i j lt inside
 in_order false value n i j rises lt inside = rises (n - suc j) (n - suc i) (omega (arith, lt, inside)) (omega (arith, lt, inside))
 
@@ -69,9 +69,9 @@ pub record IsMergedTo {X Y : Type 0} (both : X → X → X) (taking : Y → X �
     (hulls : List X) (value next_value : ℕ → ℤ) (n m at k : ℕ) (run : X) (old new : List Y) : Type 0 where
   pub inside : at ≤ n
   pub run_is : run ≡ gathered both none up (λ i. front (get_or hulls i none) (value i)) n at
-  pub passed : (i : ℕ) → i < at → k < m → passes up twin (value (place up n i)) (next_value (place up m k)) ≡ true
+  pub passed : (i : ℕ) → i < at → k < m → passes up twin (value (step_place up n i)) (next_value (step_place up m k)) ≡ true
   pub column : IsSteppedTo taking none blank up
-      (λ k. closing (passed_hull both none up twin front hulls value (next_value (place up m k))) (next_value (place up m k))) m 0 0 k old new
+      (λ k. closing (passed_hull both none up twin front hulls value (next_value (step_place up m k))) (next_value (step_place up m k))) m 0 0 k old new
 
 module _ {X Y : Type 0} (both : X → X → X) (taking : Y → X → Y) (none : X) (blank : Y) (assoc : (a b c : X) → both (both a b) c ≡ both a (both b c))
     (comm : (a b : X) → both a b ≡ both b a) (idem : (a : X) → both a a ≡ a) (up twin : Bool) (front closing : X → ℤ → X) (hulls : List X)
@@ -93,40 +93,41 @@ module _ {X Y : Type 0} (both : X → X → X) (taking : Y → X → Y) (none : 
       (gathered_takes both none assoc comm (λ i. front (get_or hulls i none) (value i)) up n at (idem none))
 
   merge_take : (at k i : ℕ) (w : ℤ) (run run' : X) (old new : List Y) →
-      IsMergedTo both taking none blank up twin front closing hulls value next_value n m at k run old new → at < n → i ≡ place up n at →
-      w ≡ next_value (place up m k) → passes up twin (value (place up n at)) w ≡ true →
+      IsMergedTo both taking none blank up twin front closing hulls value next_value n m at k run old new → at < n → i ≡ step_place up n at →
+      w ≡ next_value (step_place up m k) → passes up twin (value (step_place up n at)) w ≡ true →
       run' ≡ both run (front (get_or hulls i none) (value i)) →
       IsMergedTo both taking none blank up twin front closing hulls value next_value n m (at + 1) k run' old new
   unfolding gathered
   merge_take at k i w run run' old new is lt ei ew pass taken =
-      let here : passes up twin (value (place up n at)) (next_value (place up m k)) ≡ true =
-      ap (passes up twin (value (place up n at))) (sym ew) ∙ pass in
+      let here : passes up twin (value (step_place up n at)) (next_value (step_place up m k)) ≡ true =
+      ap (passes up twin (value (step_place up n at))) (sym ew) ∙ pass in
       let more : suc at ≡ at + 1 = omega arith in
       record {
         inside = omega (arith, lt);
         run_is = taken ∙ ap (λ j. both run (front (get_or hulls j none) (value j))) ei
-            ∙ ap (λ x. both x (front (get_or hulls (place up n at) none) (value (place up n at)))) is.run_is
+            ∙ ap (λ x. both x (front (get_or hulls (step_place up n at) none) (value (step_place up n at)))) is.run_is
             ∙ ap (gathered both none up (λ i. front (get_or hulls i none) (value i)) n) more;
         passed = λ j less inside. elim (below_same_or j at less) [
           | inl before ↦ is.passed j before inside
-          | inr same ↦ ap (λ z. passes up twin (value (place up n z)) (next_value (place up m k))) same ∙ here
+          | inr same ↦ ap (λ z. passes up twin (value (step_place up n z)) (next_value (step_place up m k))) same ∙ here
         ];
         column = is.column;
       }
 
   -- those that are not passed at a next value are all from place `at` on
   rest : (at k : ℕ) → at ≤ n → ((i j : ℕ) → i < j → j < n → value i <ℤ value j) →
-      ((i : ℕ) → i < at → passes up twin (value (place up n i)) (next_value (place up m k)) ≡ true) →
-      (at < n → passes up twin (value (place up n at)) (next_value (place up m k)) ≡ false) → (i : ℕ) → i < n →
-      passes up twin (value (place up n i)) (next_value (place up m k)) ≡ nat_lt i at
+      ((i : ℕ) → i < at → passes up twin (value (step_place up n i)) (next_value (step_place up m k)) ≡ true) →
+      (at < n → passes up twin (value (step_place up n at)) (next_value (step_place up m k)) ≡ false) → (i : ℕ) → i < n →
+      passes up twin (value (step_place up n i)) (next_value (step_place up m k)) ≡ nat_lt i at
   rest at k inside rises passed stop i li = elim (below_or_not i at) [
     | inl before ↦ passed i before ∙ sym (is_below i at before)
     | inr after ↦ elim (same_or at i after) [
-      | inl same ↦ ap (λ z. passes up twin (value (place up n z)) (next_value (place up m k))) (sym same)
+      | inl same ↦ ap (λ z. passes up twin (value (step_place up n z)) (next_value (step_place up m k))) (sym same)
           ∙ stop (omega (arith, same, li)) ∙ sym (not_below i at after)
-      | inr later ↦ is_false (passes up twin (value (place up n i)) (next_value (place up m k)))
-          (λ h. not_both (passes up twin (value (place up n at)) (next_value (place up m k)))
-          (passes_before up twin (value (place up n at)) (value (place up n i)) (next_value (place up m k)) (in_order up value n at i rises later li) h)
+      | inr later ↦ is_false (passes up twin (value (step_place up n i)) (next_value (step_place up m k)))
+          (λ h. not_both (passes up twin (value (step_place up n at)) (next_value (step_place up m k)))
+          (passes_before up twin (value (step_place up n at)) (value (step_place up n i)) (next_value (step_place up m k))
+          (in_order up value n at i rises later li) h)
           (stop (omega (arith, later, li))))
           ∙ sym (not_below i at after)
     ]
@@ -134,68 +135,69 @@ module _ {X Y : Type 0} (both : X → X → X) (taking : Y → X → Y) (none : 
 
   merge_put : (at k j : ℕ) (w : ℤ) (run : X) (old next next' : List Y) →
       IsMergedTo both taking none blank up twin front closing hulls value next_value n m at k run old next → ((i j : ℕ) → i < j → j < n → value i <ℤ value j) →
-      ((i j : ℕ) → i < j → j < m → next_value i <ℤ next_value j) → length hulls ≡ n → k < m → j ≡ place up m k → w ≡ next_value j →
-      (at < n → passes up twin (value (place up n at)) w ≡ false) → length next' ≡ length next →
+      ((i j : ℕ) → i < j → j < m → next_value i <ℤ next_value j) → length hulls ≡ n → k < m → j ≡ step_place up m k → w ≡ next_value j →
+      (at < n → passes up twin (value (step_place up n at)) w ≡ false) → length next' ≡ length next →
       get_or next' j blank ≡ taking (get_or next j blank) (closing run w) → ((i : ℕ) → i ≢ j → get_or next' i blank ≡ get_or next i blank) →
       IsMergedTo both taking none blank up twin front closing hulls value next_value n m at (k + 1) run old next'
   merge_put at k j w run old next next' is rises next_rises same lt ej ew stop len here others =
-      let wk : w ≡ next_value (place up m k) = ew ∙ ap next_value ej in
-      let stops : at < n → passes up twin (value (place up n at)) (next_value (place up m k)) ≡ false =
-      λ less. (ap (passes up twin (value (place up n at))) (sym wk) ∙ stop less) in
-      let whole : run ≡ passed_hull both none up twin front hulls value (next_value (place up m k)) =
+      let wk : w ≡ next_value (step_place up m k) = ew ∙ ap next_value ej in
+      let stops : at < n → passes up twin (value (step_place up n at)) (next_value (step_place up m k)) ≡ false =
+      λ less. (ap (passes up twin (value (step_place up n at))) (sym wk) ∙ stop less) in
+      let whole : run ≡ passed_hull both none up twin front hulls value (next_value (step_place up m k)) =
       is.run_is
       ∙ sym (gathered_total both none assoc comm (λ i. front (get_or hulls i none) (value i)) up
-      (λ i. passes up twin (value i) (next_value (place up m k))) n at is.inside
+      (λ i. passes up twin (value i) (next_value (step_place up m k))) n at is.inside
       (rest at k is.inside rises (λ i less. is.passed i less lt) stops))
-      ∙ ap (total both none (λ i. passes up twin (value i) (next_value (place up m k))) (λ i. front (get_or hulls i none) (value i))) (sym same) in
-      let there : get_or next' (place up m k) blank
-      ≡ taking (get_or next (place up m k) blank)
-      (closing (passed_hull both none up twin front hulls value (next_value (place up m k))) (next_value (place up m k))) =
+      ∙ ap (total both none (λ i. passes up twin (value i) (next_value (step_place up m k))) (λ i. front (get_or hulls i none) (value i))) (sym same) in
+      let there : get_or next' (step_place up m k) blank
+      ≡ taking (get_or next (step_place up m k) blank)
+      (closing (passed_hull both none up twin front hulls value (next_value (step_place up m k))) (next_value (step_place up m k))) =
       subst (λ z. get_or next' z blank ≡ taking (get_or next z blank) (closing run w)) ej here
-      ∙ ap (λ x. taking (get_or next (place up m k) blank) (closing x w)) whole
-      ∙ ap (λ x. taking (get_or next (place up m k) blank)
-      (closing (passed_hull both none up twin front hulls value (next_value (place up m k))) x)) wk in
+      ∙ ap (λ x. taking (get_or next (step_place up m k) blank) (closing x w)) whole
+      ∙ ap (λ x. taking (get_or next (step_place up m k) blank)
+      (closing (passed_hull both none up twin front hulls value (next_value (step_place up m k))) x)) wk in
       record {
         inside = is.inside;
         run_is = is.run_is;
         passed = λ i less inside.
-            passes_after up twin (value (place up n i)) (next_value (place up m k)) (next_value (place up m (k + 1)))
+            passes_after up twin (value (step_place up n i)) (next_value (step_place up m k)) (next_value (step_place up m (k + 1)))
             (in_order up next_value m k (k + 1) next_rises (omega arith) inside) (is.passed i less lt);
         column = steps taking none blank up
-            (λ k. closing (passed_hull both none up twin front hulls value (next_value (place up m k))) (next_value (place up m k)))
+            (λ k. closing (passed_hull both none up twin front hulls value (next_value (step_place up m k))) (next_value (step_place up m k)))
             m 0 0 k old next next' is.column len
             (λ k' lt' e. (let same_k : k ≡ k' = omega (arith, e) in
-            subst (λ z. get_or next' (place up m z) blank
-            ≡ taking (get_or next (place up m z) blank)
-            (closing (passed_hull both none up twin front hulls value (next_value (place up m z))) (next_value (place up m z)))) same_k there))
-            (λ k' lt' e. others (place up m k')
+            subst (λ z. get_or next' (step_place up m z) blank
+            ≡ taking (get_or next (step_place up m z) blank)
+            (closing (passed_hull both none up twin front hulls value (next_value (step_place up m z))) (next_value (step_place up m z)))) same_k there))
+            (λ k' lt' e. others (step_place up m k')
             (λ same_place. (let back : k' ≡ k =
-            sym (place_place up m k' lt') ∙ ap (place up m) (same_place ∙ ej) ∙ place_place up m k lt in e (omega (arith, back)))));
+            sym (place_place up m k' lt') ∙ ap (step_place up m) (same_place ∙ ej) ∙ place_place up m k lt in e (omega (arith, back)))));
       }
 
   -- the same by what the calls of a step say: of a length that is n, and of w as it was passed
   pub merge_took : (len at k i : ℕ) (w : ℤ) (run run' : X) (old new : List Y) →
-      IsMergedTo both taking none blank up twin front closing hulls value next_value n m at k run old new → n ≡ len → IsSmall w → at < len → i ≡ place up n at →
-      w ≡ next_value (place up m k) → passes up twin (value (place up len at)) (to_z w64 (of_z w64 w)) ≡ true →
+      IsMergedTo both taking none blank up twin front closing hulls value next_value n m at k run old new → n ≡ len → IsSmall w → at < len →
+      i ≡ step_place up n at →
+      w ≡ next_value (step_place up m k) → passes up twin (value (step_place up len at)) (to_z w64 (of_z w64 w)) ≡ true →
       run' ≡ both run (front (get_or hulls i none) (value i)) →
       IsMergedTo both taking none blank up twin front closing hulls value next_value n m (at + 1) k run' old new
   merge_took len at k i w run run' old new is same small lt ei ew pass taken =
       merge_take at k i w run run' old new is (omega (arith, same, lt)) ei ew
-      (subst (λ z. passes up twin (value (place up z at)) w ≡ true) (sym same)
-      (as_passed (λ z. passes up twin (value (place up len at)) z ≡ true) w small pass))
+      (subst (λ z. passes up twin (value (step_place up z at)) w ≡ true) (sym same)
+      (as_passed (λ z. passes up twin (value (step_place up len at)) z ≡ true) w small pass))
       taken
 
   pub merge_gave : (len at k j : ℕ) (w : ℤ) (run : X) (old next next' : List Y) →
       IsMergedTo both taking none blank up twin front closing hulls value next_value n m at k run old next → n ≡ len → IsSmall w →
       ((i j : ℕ) → i < j → j < n → value i <ℤ value j) → ((i j : ℕ) → i < j → j < m → next_value i <ℤ next_value j) → length hulls ≡ n → k < m →
-      j ≡ place up m k → w ≡ next_value j → (at < len → passes up twin (value (place up len at)) (to_z w64 (of_z w64 w)) ≡ false) →
+      j ≡ step_place up m k → w ≡ next_value j → (at < len → passes up twin (value (step_place up len at)) (to_z w64 (of_z w64 w)) ≡ false) →
       length next' ≡ length next → get_or next' j blank ≡ taking (get_or next j blank) (closing run w) →
       ((i : ℕ) → i ≢ j → get_or next' i blank ≡ get_or next i blank) →
       IsMergedTo both taking none blank up twin front closing hulls value next_value n m at (k + 1) run old next'
   merge_gave len at k j w run old next next' is same small rises next_rises hulls_same lt ej ew stop =
       merge_put at k j w run old next next' is rises next_rises hulls_same lt ej ew
-      (λ less. subst (λ z. passes up twin (value (place up z at)) w ≡ false) (sym same)
-      (as_passed (λ z. passes up twin (value (place up len at)) z ≡ false) w small (stop (omega (arith, same, less)))))
+      (λ less. subst (λ z. passes up twin (value (step_place up z at)) w ≡ false) (sym same)
+      (as_passed (λ z. passes up twin (value (step_place up len at)) z ≡ false) w small (stop (omega (arith, same, less)))))
 
   pub merge_end : (at k : ℕ) (run : X) (old new : List Y) →
       IsMergedTo both taking none blank up twin front closing hulls value next_value n m at k run old new →

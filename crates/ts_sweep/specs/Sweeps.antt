@@ -47,27 +47,27 @@ pub record IsTakenIn {X Y : Type 0} (taking : Y → X → Y) (none : X) (blank :
       get_or new j blank ≡ taking (get_or old j blank) (h j)
 
 -- the place that comes at step k of n: from the first, or else from the last
-abbrev pub place : Bool → ℕ → ℕ → ℕ
-place true n k = k
-place false n k = n - suc k
+abbrev pub step_place : Bool → ℕ → ℕ → ℕ
+step_place true n k = k
+step_place false n k = n - suc k
 
 -- what the first k steps of a sweep over n values join to
 unfoldable pub gathered : {X : Type 0} → (X → X → X) → X → Bool → (ℕ → X) → ℕ → ℕ → X
 gathered both none up f n zero = none
-gathered both none up f n (suc k) = both (gathered both none up f n k) (f (place up n k))
+gathered both none up f n (suc k) = both (gathered both none up f n k) (f (step_place up n k))
 
 -- at step k of the next values so many of the values are passed: those whose step is below k + ahead - behind
 abbrev pub Leads : Bool → Bool → (ℕ → ℤ) → ℕ → (ℕ → ℤ) → ℕ → ℕ → ℕ → Type 0
 Leads up twin value n next_value m ahead behind =
-    (i k : ℕ) → i < n → k < m → passes up twin (value (place up n i)) (next_value (place up m k))
+    (i k : ℕ) → i < n → k < m → passes up twin (value (step_place up n i)) (next_value (step_place up m k))
     ≡ nat_lt (i + behind) (k + ahead)
 
 -- so far those of the m items have taken in what there is for their steps whose step is before step t
 pub record IsSteppedTo {X Y : Type 0} (taking : Y → X → Y) (none : X) (blank : Y) (up : Bool) (h : ℕ → X)
     (m ahead behind t : ℕ) (old new : List Y) : Type 0 where
   pub len : length new ≡ length old
-  pub done : (k : ℕ) → k < m → k + ahead < t + behind → taking (get_or old (place up m k) blank) none
-      ≡ get_or old (place up m k) blank →
-      get_or new (place up m k) blank ≡ taking (get_or old (place up m k) blank) (h k)
-  pub rest : (k : ℕ) → k < m → t + behind ≤ k + ahead → get_or new (place up m k) blank
-      ≡ get_or old (place up m k) blank
+  pub done : (k : ℕ) → k < m → k + ahead < t + behind → taking (get_or old (step_place up m k) blank) none
+      ≡ get_or old (step_place up m k) blank →
+      get_or new (step_place up m k) blank ≡ taking (get_or old (step_place up m k) blank) (h k)
+  pub rest : (k : ℕ) → k < m → t + behind ≤ k + ahead → get_or new (step_place up m k) blank
+      ≡ get_or old (step_place up m k) blank

@@ -2,12 +2,12 @@
 
 ghost use Rattle.std.specs.Prelude.{◌≡◌, ℕ, pos, neg_ℤ, ◌<◌, ◌≤◌, ◌+◌, ◌-◌, ◌≢◌, ◌+ℤ◌, length, get_or};
 ghost use Rattle.ts_sweep.specs.Small.{IsAhead, IsCell, IsCut, IsSmall, ahead_of, with_twin};
-ghost use Rattle.ts_sweep.specs.Sweeps.{IsTakenIn, Leads, passed_hull, place};
+ghost use Rattle.ts_sweep.specs.Sweeps.{IsTakenIn, Leads, passed_hull, step_place};
 
 use crate::column::Column;
 use crate::hull::Hull;
 use crate::source::Fronts;
-use crate::steps::{place, taken_from};
+use crate::steps::{step_place, taken_from};
 use crate::values::{Run, Values};
 
 /// How far one cell is ahead of the next, in the order of the sweep.
@@ -137,13 +137,20 @@ fn taken_at<const UP: bool, H: Hull, F: Fronts<H>, C: Column<H>>(
     requires fit { (i : ℕ) → i < values.count → F.fit by (get_or (C.hulls from before.now) i H.none) }
     requires takes { H.both run H.none ≡ run }
     ensures there { t < values.count → result ≡ H.both run
-        (F.front by (get_or (C.hulls from before.now) (place UP values.count t) H.none)
-        (values.first +ℤ pos (place UP values.count t))) }
+        (F.front by (get_or (C.hulls from before.now) (step_place UP values.count t) H.none)
+        (values.first +ℤ pos (step_place UP values.count t))) }
     ensures beyond { values.count ≤ t → result ≡ run }
     ensures closable { F.closable by run → F.closable by result }
 {
     if t < values.count {
-        taken_from::<H, F, Run, C>(by, values, from, before, place::<UP>(values.count, t), run)
+        taken_from::<H, F, Run, C>(
+            by,
+            values,
+            from,
+            before,
+            step_place::<UP>(values.count, t),
+            run,
+        )
     } else {
         run
     }
@@ -170,17 +177,17 @@ fn put_at<const UP: bool, H: Hull, F: Fronts<H>, C: Column<H>>(
     requires inside { t + lead.behind < next_values.count + lead.ahead }
     ensures len { length (C.column to next.new) ≡ length (C.column to next.old) }
     ensures here { (k : ℕ) → k < next_values.count → k + lead.ahead ≡ t + lead.behind →
-        get_or (C.column to next.new) (place UP next_values.count k) C.blank
-        ≡ C.taking (get_or (C.column to next.old) (place UP next_values.count k) C.blank)
-        (F.closing by run (next_values.first +ℤ pos (place UP next_values.count k))) }
+        get_or (C.column to next.new) (step_place UP next_values.count k) C.blank
+        ≡ C.taking (get_or (C.column to next.old) (step_place UP next_values.count k) C.blank)
+        (F.closing by run (next_values.first +ℤ pos (step_place UP next_values.count k))) }
     ensures others { (k : ℕ) → k < next_values.count → k + lead.ahead ≢ t + lead.behind →
-        get_or (C.column to next.new) (place UP next_values.count k) C.blank
-        ≡ get_or (C.column to next.old) (place UP next_values.count k) C.blank }
+        get_or (C.column to next.new) (step_place UP next_values.count k) C.blank
+        ≡ get_or (C.column to next.old) (step_place UP next_values.count k) C.blank }
     ensures whole { C.whole to next.new }
     ensures beside { C.beside to next.old next.new }
 {
     if lead.ahead <= t + lead.behind {
-        let j = place::<UP>(next_values.count, t + lead.behind - lead.ahead);
+        let j = step_place::<UP>(next_values.count, t + lead.behind - lead.ahead);
         to.take_in(next, j, by.closed(run, next_values.at(j)));
     }
 }

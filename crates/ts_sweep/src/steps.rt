@@ -1,7 +1,7 @@
 //! What the sweeps share.
 
 ghost use Rattle.std.specs.Prelude.{◌≡◌, ℕ, ◌<◌, length, get_or};
-ghost use Rattle.ts_sweep.specs.Sweeps.{place};
+ghost use Rattle.ts_sweep.specs.Sweeps.{step_place};
 
 use crate::column::Column;
 use crate::hull::Hull;
@@ -10,9 +10,9 @@ use crate::values::Values;
 
 /// The place that comes at a step: from the first, or else from the last.
 #[inline(always)]
-pub(crate) fn place<const UP: bool>(n: usize, k: usize) -> usize
+pub(crate) fn step_place<const UP: bool>(n: usize, k: usize) -> usize
     requires { k < n }
-    ensures value { result ≡ place UP n k }
+    ensures value { result ≡ step_place UP n k }
     ensures inside { result < n }
 {
     if UP { k } else { n - 1 - k }

@@ -2,12 +2,12 @@
 
 ghost use Rattle.std.specs.Prelude.{◌≡◌, ℕ, ◌<◌, length, get_or, true, false};
 ghost use Rattle.ts_sweep.specs.Small.{IsSmall};
-ghost use Rattle.ts_sweep.specs.Sweeps.{IsTakenIn, bound_of, passed_hull, passes, place};
+ghost use Rattle.ts_sweep.specs.Sweeps.{IsTakenIn, bound_of, passed_hull, passes, step_place};
 
 use crate::column::Column;
 use crate::hull::Hull;
 use crate::source::Fronts;
-use crate::steps::{place, taken_from};
+use crate::steps::{step_place, taken_from};
 use crate::values::Values;
 
 /// Whether a value is passed at a bound.
@@ -46,12 +46,13 @@ fn is_passed<const UP: bool, V: Values>(values: V, at: usize, w: i64, twin: bool
     requires ok { V.ok values }
     requires small { IsSmall w }
     ensures there { result ≡ true → at < V.len values }
-    ensures passed { result ≡ true → passes UP twin (V.value values (place UP (V.len values) at)) w ≡ true }
-    ensures rest { result ≡ false → at < V.len values → passes UP twin (V.value values (place UP (V.len values) at)) w
+    ensures passed { result ≡ true → passes UP twin (V.value values (step_place UP (V.len values) at)) w ≡ true }
+    ensures rest { result ≡ false → at < V.len values →
+        passes UP twin (V.value values (step_place UP (V.len values) at)) w
         ≡ false }
 {
     let n = values.count();
-    at < n && passes::<UP>(values.at(place::<UP>(n, at)), w, twin)
+    at < n && passes::<UP>(values.at(step_place::<UP>(n, at)), w, twin)
 }
 
 /// Takes in a move by a sweep: each step takes the next value into the running hull, or gives the hull to the next
@@ -91,10 +92,10 @@ pub fn sweep<const UP: bool, H: Hull, F: Fronts<H>, V: Values, W: Values, C: Col
     let mut at = 0;
     let mut k = 0;
     while k < m {
-        let j = place::<UP>(m, k);
+        let j = step_place::<UP>(m, k);
         let w = next_values.at(j);
         if is_passed::<UP, V>(values, at, w, twin) {
-            run = taken_from::<H, F, V, C>(by, values, from, before, place::<UP>(n, at), run);
+            run = taken_from::<H, F, V, C>(by, values, from, before, step_place::<UP>(n, at), run);
             at += 1;
         } else {
             to.take_in(next, j, by.closed(run, w));
