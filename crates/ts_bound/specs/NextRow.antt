@@ -23,7 +23,7 @@ pub record Source : Type 0 where
 abbrev pub source : ℤ → ℕ → Hull → Source
 source v q h = record { value = v; state = q; hull = h }
 
--- its state, with its spans
+-- where runs stand that come from there: the state, with the spans of the hull
 abbrev pub standing_at : Source → Standing Span
 standing_at s = record { state = s.state; regs = spans_of s.hull }
 

@@ -58,7 +58,7 @@ impl Builder {
         }
     }
 
-    /// What is taken away from them.
+    /// What is taken away from what the cells give: only `range` takes something away.
     pub(crate) fn less(&self) -> Half
         ensures row { result.row ≡ less_fold self.now.feature }
         ensures idle { result.idle ≡ Zero }

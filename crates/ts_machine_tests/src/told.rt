@@ -328,7 +328,7 @@ fn begin_by_name(name: &str) -> Ext {
     }
 }
 
-/// And of a model's only term.
+/// What results of a model's only term begin with.
 fn begin_of(model: &Model) -> Ext {
     match model.terms.values().next() {
         Some(term) if term.aggregator == Aggregator::Max => Ext::NegInf,

@@ -385,7 +385,7 @@ fn is_same(mark: Mark) -> bool
 }
 
 /// Whether the span of the answers of both runs reaches the ends that are enough, where both states are reached. It is
-/// long, and rare beside questions about one end, which would not be put in place with it.
+/// a call: it is long and rare, and the tests of one end, which are asked most, stand in their loop without it.
 #[inline(never)]
 fn answers_settle<const N: usize>(
     enough: Ends,

@@ -66,7 +66,7 @@ InputEnds (Live limit) Is due left left_now faults faults_after before after sta
 InputEnds Nothing Is due left left_now faults faults_after before after status =
     (faults_after ≡ faults) × EndsWith (Is []) before after status
 
--- what it has read; of a stream its end tells that
+-- what a command has read of its source; how much of a stream it has read is said where the stream ends
 abbrev pub InputTakes : Input → {S : Type 0} → (S → Option (List ℕ)) → S → S → Status → Type 0
 InputTakes (Whole limit) left old new status = WholeTakes limit (left old) (left new) status
 InputTakes (Live limit) left old new status = GaveAtMost (limit + 1) (left old) (left new)

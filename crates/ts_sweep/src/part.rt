@@ -54,7 +54,7 @@ pub trait Part: Copy {
     fn is_fit(self, cover: &Cover) -> bool
         ensures { result ≡ true → (xs : List ℤ) → IsBounded cover.now xs → fit self xs };
 
-    /// The front.
+    /// The ends of the front of a hull at the value `x`.
     fn begun<H: Packed>(self, h: H, x: i64) -> Ends
         requires registers { 6 ≤ H.count }
         requires fit { fit self (as_read H.sides (H.lanes h)) }

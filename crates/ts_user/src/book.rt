@@ -105,7 +105,7 @@ impl Book {
         }
     }
 
-    /// With the whole pattern alone.
+    /// A book that has the whole pattern as its only residual.
     pub fn new(alloc: Global, p: &Pattern) -> Result<Book, Memory>
         ensures book { IfOk result (λ b. IsBook (shape_of p.now.regex) b) }
         ensures whole { IfOk result (λ b. residuals_of b ≡ normal_form (shape_of p.now.regex) ∷ []) }

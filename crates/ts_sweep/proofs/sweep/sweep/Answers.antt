@@ -25,7 +25,8 @@ loop-k-preserved-then-is_passed g c =
     let h = g.met.H.Hull in
     let is = c.loop-k.invariant in (
       merge_took _ _ _ _ h.associative h.commutative h.idempotent _ _ _ _ _ _ _ _ _ _ _ _ _ _ _ _ _ _ is.0 is.1 c.at-w.ensures.small
-          (c.if-is_passed.ensures.there refl) c.place.ensures.value (c.at-w.ensures.value ∙ ap (g.W.Values.value c.args.next_values) c.place-j.ensures.value)
+          (c.if-is_passed.ensures.there refl) c.step_place.ensures.value (c.at-w.ensures.value
+          ∙ ap (g.W.Values.value c.args.next_values) c.step_place-j.ensures.value)
           (c.if-is_passed.ensures.passed refl) c.taken_from-run.ensures.value,
       is.1,
       is.2,
@@ -43,9 +44,9 @@ loop-k-preserved g c =
           (λ i j lt inside. g.met.V.Values.rises c.args.values c.requires.ok i j lt (omega (arith, inside, is.1)))
           (λ i j lt inside. g.met.W.Values.rises c.args.next_values c.requires.next_ok i j lt (omega (arith, inside, is.2)))
           (g.met.C.Column.same_length c.args.from c.args.before.now ∙ c.requires.same ∙ sym is.1)
-          c.loop-k-test.true c.place-j.ensures.value c.at-w.ensures.value (c.if-is_passed.ensures.rest refl) c.take_in.ensures.len
+          c.loop-k-test.true c.step_place-j.ensures.value c.at-w.ensures.value (c.if-is_passed.ensures.rest refl) c.take_in.ensures.len
           (c.take_in.ensures.here
-          ∙ ap (g.C.Column.taking (get_or (g.C.Column.column c.args.to c.loop-k.next) c.place-j.result g.C.Column.blank))
+          ∙ ap (g.C.Column.taking (get_or (g.C.Column.column c.args.to c.loop-k.next) c.step_place-j.result g.C.Column.blank))
           (as_passed (λ z. c.closed.result ≡ g.F.Fronts.closing c.args.by c.loop-k.run z) c.at-w.result c.at-w.ensures.small c.closed.ensures))
           c.take_in.ensures.others,
       is.1,
