@@ -12,7 +12,7 @@ use Rattle.ts_filter.specs.declared.gone.Gone.{Gone}
 use Rattle.ts_filter.specs.declared.planned.Planned.{Planned}
 use Rattle.ts_filter.specs.declared.row_stack.HullRow.{HullRow}
 use Rattle.ts_filter.specs.AnyRows.{columns, lanes_of, row_part}
-use Rattle.ts_filter.specs.RowStacks.{HasStates, IsFilled, IsLaid, IsCut, IsForgotten, IsLess, IsOneMore, IsShown, Kept, Laid, NoneKept, Rows, Stack, all_hulls, all_kept, hulls_in, kept_at, kept_in, nothing_kept, shown, values_in, with_row, without}
+use Rattle.ts_filter.specs.RowStacks.{HasStates, IsFilled, IsLaid, IsTruncated, IsForgotten, IsLess, IsOneMore, IsShown, Kept, Laid, NoneKept, Rows, Stack, all_hulls, all_kept, hulls_in, kept_at, kept_in, nothing_kept, shown, values_in, with_row, without}
 use Rattle.ts_filter.specs.RowWindows.{AreForgotten, HasLost, Shows}
 use Rattle.ts_filter.proofs.LaidRows.{above_row, pushed, put_within, row_count, stack}
 use Rattle.ts_filter.proofs.RowParts.{front_of_front}
@@ -204,7 +204,7 @@ module _ (p : Planned) (rows new : List HullRow) (k from count m : ℕ) (f : Are
       (omega (arith, long, here, there, le), f.laid p laid, omega (arith, long, here, there, within, lt), none_above)
 
 pub held_cut : (p : Planned) (rows : List HullRow) (k from next count end : ℕ) (old mid : Stack) → IsForgotten count old mid → held p rows k from ≡ mid →
-    end ≤ next → (length rows ≤ k) ⊎ (from ≤ next) → IsCut count end old (held p rows (min k count) next)
+    end ≤ next → (length rows ≤ k) ⊎ (from ≤ next) → IsTruncated count end old (held p rows (min k count) next)
 held_cut p rows k from next count end old mid f is to some =
     let g : IsForgotten count old (held p rows k from) = subst (IsForgotten count old) (sym is) f in
     let all = all_hulls p.states rows in

@@ -18,7 +18,7 @@ use Rattle.ts_filter.specs.AnyRows.{form_sides}
 use Rattle.ts_filter.specs.Boxes.{Box}
 use Rattle.ts_filter.specs.Gone.{AreLost}
 use Rattle.ts_filter.specs.KnownRows.{AreFirst, AreKeptBehind, AreKnown, AreRows, AreRowsOf, AreBehind, GoOnBehind, KnownRows, StillKnown}
-use Rattle.ts_filter.specs.RowStacks.{AreKept, Rows, Kept, Laid, Sight, Stack, IsFilled, IsFollowed, GoOn, IsKept, IsLess, IsLessened, IsPlanned, IsSound, Stands, IsOneMore, IsCut, IsKnownAt, IsLeft, IsRestored, IsShown, IsSpliced, kept_at, next_seen, no_rows, nothing_laid, rows_seen, seen_by, sight, with_row, without}
+use Rattle.ts_filter.specs.RowStacks.{AreKept, Rows, Kept, Laid, Sight, Stack, IsFilled, IsFollowed, GoOn, IsKept, IsLess, IsLessened, IsPlanned, IsSound, Stands, IsOneMore, IsTruncated, IsKnownAt, IsLeft, IsRestored, IsShown, IsSpliced, kept_at, next_seen, no_rows, nothing_laid, rows_seen, seen_by, sight, with_row, without}
 use Rattle.ts_domain.proofs.Sets.{nothing_in}
 use Rattle.ts_glue.specs.Pairs.{Pair}
 use Rattle.ts_model.specs.declared.model.Require.{Require}
@@ -239,7 +239,7 @@ known_inside p rows k from at kept s is le lt =
       same = sym (get_or-take k rows at [] lt);
     })
 
-module _ (old cut : Stack) (count end : ℕ) (known : IsKnownAt count old) (f : IsCut count end old cut) where
+module _ (old cut : Stack) (count end : ℕ) (known : IsKnownAt count old) (f : IsTruncated count end old cut) where
   pub are_left : length cut.known ≡ count
   are_left = let l = ap length f.known ∙ length-take count old.known in let lt = known.known in omega (arith, l, lt)
 
@@ -316,7 +316,7 @@ module _ (a : Body) (cells later : Box) (count end : ℕ) (old : Stack) (plan : 
   fronts : (i : ℕ) → i ≤ count → take i later ≡ take i cells
   fronts i le = sym (take-take i count later le) ∙ ap (take i) before ∙ take-take i count cells le
 
-  kept_stay : (new : Stack) → IsCut count end old new → AreKept saw later new.kept
+  kept_stay : (new : Stack) → IsTruncated count end old new → AreKept saw later new.kept
   kept_stay new f i = go (is_above i count)
     where
       is_above : (i n : ℕ) → (i ≤ n) ⊎ (n + 1 ≤ i)
@@ -329,7 +329,7 @@ module _ (a : Body) (cells later : Box) (count end : ℕ) (old : Stack) (plan : 
           (λ some. k i some ∙ ap (λ l. seen_row saw.ends (row_of a (reverse l) was.values)) (sym (fronts i le)))
       go (inr above) = none_kept saw later i (kept_at new.kept i) (f.none i above)
 
-  cut_stays : (new : Stack) → IsCut count end old new → AreRows a later new
+  cut_stays : (new : Stack) → IsTruncated count end old new → AreRows a later new
   cut_stays new f =
       made_rows a old.planned later new f.planned plan (stay_first saw cells later count old.known new.known f.known before h)
       (laid_stay saw plan.sound cells later end old.known old.laid new.laid h g f.from f.rows f.above long behind) (kept_stay new f)

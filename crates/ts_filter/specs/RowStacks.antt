@@ -169,7 +169,7 @@ pub record IsForgotten (count : ℕ) (old new : Stack) : Type 0 where
   pub none : NoneKept (count + 1) new.kept
 
 -- only the first `count` are known still; from `end` on the rows go on as before; what was kept is, up to place `count`
-pub record IsCut (count end : ℕ) (old new : Stack) : Type 0 where
+pub record IsTruncated (count end : ℕ) (old new : Stack) : Type 0 where
   pub planned : new.planned ≡ old.planned
   pub known : new.known ≡ take count old.known
   pub rows : new.laid.rows ≡ old.laid.rows
@@ -217,7 +217,7 @@ pub record IsLess (gone : Gone) (before : List ℤ) (old new : Stack) : Type 0 w
 pub record IsSpliced (count end : ℕ) (gone : Gone) (before : List ℤ) (old new : Stack) : Type 0 where
   pub there : IsKnownAt count old
   pub cut : Stack
-  pub is_cut : IsCut count end old cut
+  pub is_cut : IsTruncated count end old cut
   pub less : IsLess gone before cut new
 
 -- one more is known: of what is kept there, the hulls of the values `now`, which stand side by side among others
@@ -237,7 +237,7 @@ MayShow now old new = (new ≡ old) ⊎ IsShown now old new
 -- only the first `count` are known still, and perhaps the next one, whose hulls for its values `now` were kept
 pub record IsRestored (count end : ℕ) (now : List ℤ) (old new : Stack) : Type 0 where
   pub cut : Stack
-  pub is_cut : IsCut count end old cut
+  pub is_cut : IsTruncated count end old cut
   pub more : (new ≡ cut) ⊎ ((length cut.known ≡ count) × IsShown now cut new)
 
 -- only the first `count` rows are known still. The next one's cell had the values `before` and has the values `now`:

@@ -6,7 +6,7 @@ ghost use Rattle.std.specs.Prelude.{get_or, length};
 ghost use Rattle.ts_filter.specs.AnyRows.{IsFormOf, IsRowOf, columns, form_of, lanes_of, viewed};
 ghost use Rattle.ts_filter.specs.RowStacks.{
   HasStates,
-  IsCut,
+  IsTruncated,
   IsForgotten,
   IsKnownAt,
   IsLaid,
@@ -417,7 +417,7 @@ impl RowStack {
     /// Only the first `count` rows stay known. From place `end` on each row still follows from the one before. What is
     /// kept of the rows above place `count` depends on a cell that may change: it's forgotten.
     fn truncate(&mut self, count: usize, end: usize)
-        ensures { IsCut count end self.old self.new }
+        ensures { IsTruncated count end self.old self.new }
     {
         self.forget_above(count);
         if self.known == self.rows.len() {
