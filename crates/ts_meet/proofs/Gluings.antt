@@ -15,7 +15,7 @@ use Rattle.ts_automaton.specs.Formula.{Formula, Leaf, Join}
 use Rattle.ts_automaton.specs.Registers.{EachOf, Takes, Values, value_in}
 use Rattle.ts_glue.specs.declared.operand.Part.{Part}
 use Rattle.ts_glue.specs.declared.operand.Part.TheVariants.{Whole, Away}
-use Rattle.ts_glue.specs.Glue.{Glue, Left, Right, Number, With, GlueTakes, apart, fold_of, fold_op, folded_between, folded_both, glue_in, glue_of, held_in, is_join, is_wide, join_of, open_in, part_of, result_op, worth}
+use Rattle.ts_glue.specs.Glue.{Glue, Left, Right, Number, With, GlueTakes, apart, fold_of, fold_op, folded_between, folded_both, glue_in, glue_of, held_in, is_join, is_wide, join_of, open_in, part_of, result_of, result_op, worth}
 use Rattle.ts_glue.specs.Pairs.{Pair}
 use Rattle.ts_hull.specs.Sealed.{sealed_op, sealed_spans}
 use Rattle.ts_sweep.specs.declared.packed.Ends.{Ends}
@@ -55,7 +55,7 @@ AreCells (With o u v) = AreCells u × AreCells v
 module _ (m : Values Ends) (P : Operator → Ends → Ends → Type 0)
     (number : (x : ℤ) → IsCellValue x → IsPackOf (m.constant (Int x)) (one_span (Int x)))
     (packs : (o : Operator) (a b : Ends) (s t : Span) → P o a b → IsPackOf a s → IsPackOf b t → IsPackOf (m.join o a b) (sealed_op o s t)) where
-  value_packs : (f : Formula) (a : EachOf Ends) (s : EachOf Span) → OfRegisters f → Takes P m a (pos 0) (pos 0) f → ArePackOf a s →
+  pub value_packs : (f : Formula) (a : EachOf Ends) (s : EachOf Span) → OfRegisters f → Takes P m a (pos 0) (pos 0) f → ArePackOf a s →
       IsPackOf (value_in m a (pos 0) (pos 0) f) (value_in sealed_spans s (pos 0) (pos 0) f)
   value_packs (Leaf C) a s r h p = p.0
   value_packs (Leaf E) a s r h p = p.1
@@ -139,9 +139,24 @@ glued_packs m P number packs g a b cell takes e is s t p q =
     subst (λ z. IsPackOf z (glue_in sealed_spans s t (expression g))) (sym is)
     (glue_packs m P number packs (expression g) a b s t (cells_by g g.joins cell) takes p q)
 
+answer_cells : (wide : Bool) (o : Op) → OfRegisters (result_of wide o)
+answer_cells true o = (tt, (tt, tt))
+answer_cells false o = (tt, tt)
+
+-- and what stands so for the answer of a run
+pub answer_packs : (m : Values Ends) (P : Operator → Ends → Ends → Type 0) →
+    ((x : ℤ) → IsCellValue x → IsPackOf (m.constant (Int x)) (one_span (Int x))) →
+    ((o : Operator) (a b : Ends) (s t : Span) → P o a b → IsPackOf a s → IsPackOf b t → IsPackOf (m.join o a b) (sealed_op o s t)) →
+    (wide : Bool) (o : Op) (a : EachOf Ends) → Takes P m a (pos 0) (pos 0) (result_of wide o) → (e : Ends) →
+    e ≡ value_in m a (pos 0) (pos 0) (result_of wide o) → (s : EachOf Span) → ArePackOf a s →
+    IsPackOf e (value_in sealed_spans s (pos 0) (pos 0) (result_of wide o))
+answer_packs m P number packs wide o a takes e is s p =
+    subst (λ z. IsPackOf z (value_in sealed_spans s (pos 0) (pos 0) (result_of wide o))) (sym is)
+    (value_packs m P number packs (result_of wide o) a s (answer_cells wide o) takes p)
+
 -- sums of any numbers take all
 
-any_value : (m : Values Ends) (a : EachOf Ends) (f : Formula) → Takes TakesAny m a (pos 0) (pos 0) f
+pub any_value : (m : Values Ends) (a : EachOf Ends) (f : Formula) → Takes TakesAny m a (pos 0) (pos 0) f
 any_value m a (Leaf w) = tt
 any_value m a (Join o f g) = (any_value m a f, any_value m a g, tt)
 

@@ -8,6 +8,7 @@ use Rattle.std.proofs.lemmas.List.FromFn.{map-range_with_len_more}
 use Rattle.std.proofs.lemmas.List.Sums.{fold_push}
 use Rattle.ts_base.specs.declared.span.Span.{Span}
 use Rattle.ts_base.specs.Spans.{none_span, span_hull}
+use Rattle.ts_automaton.specs.Body.{Body}
 use Rattle.ts_automaton.specs.Registers.{EachOf, spans}
 use Rattle.ts_automaton.specs.SpanRun.{has_registers, marked_span}
 use Rattle.ts_glue.specs.Glue.{glue_in, glue_of}
@@ -19,12 +20,12 @@ use Rattle.ts_sweep.specs.declared.packed.PackedHull.{PackedHull}
 use Rattle.ts_sweep.specs.Lanes.{least}
 use Rattle.ts_sweep.specs.Packed.{ends, max_ends}
 use Rattle.ts_sweep.specs.Sides.{Sides, sides, seen}
-use Rattle.ts_meet.specs.Along.{between_along, hull_over, pair_along, with_along}
-use Rattle.ts_meet.specs.Meets.{glued_seen, hull_of_spans, standing, standing_in}
+use Rattle.ts_meet.specs.Along.{between_along, column_finish, finishes_along, hull_over, pair_along, with_along}
+use Rattle.ts_meet.specs.Meets.{finish_seen, glued_seen, hull_of_spans, standing, standing_in}
 use Rattle.ts_meet.specs.Settled.{with_hull_at}
 use Rattle.ts_meet.specs.Sides.{StandFor, no_ends}
 use Rattle.ts_meet.proofs.Marks.{takes_in, with_nothing}
-use Rattle.ts_meet.proofs.Meeting.{between_more, between_none, with_more, with_none}
+use Rattle.ts_meet.proofs.Meeting.{between_more, between_none, finishes_more, finishes_none, with_more, with_none}
 use Rattle.ts_meet.proofs.Pointed.{none_seen}
 
 hull_comm : (s t : Span) → span_hull s t ≡ span_hull t s
@@ -141,3 +142,27 @@ module _ (n : ℕ) (p : Pair) (from : ℕ) (values : List ℤ) (cells : ℕ) whe
         over_same (between_along n p left right from values cells (k + 1))
         (with_along n p k (get_or left k []) right from values cells (length p.reverse.states) (between_along n p left right from values cells k)) count
         (λ i lt. between_more n p left right (from + i) (get_or values i (pos 0)) cells (length p.reverse.states) k none_span)
+
+-- and those over the states of the last cell
+
+module _ (n : ℕ) (b : Body) (from cells : ℕ) where
+  pub column_none : (q : ℕ) (hulls : List (PackedHull n)) → column_finish n b q hulls from cells 0 ≡ none_span
+  column_none q hulls = over_none (λ i. finish_seen (sides n) b (with_hull_at n q hulls (from + i)) cells)
+
+  pub column_more : (q : ℕ) (hulls : List (PackedHull n)) (m : ℕ) → column_finish n b q hulls from cells (m + 1)
+      ≡ span_hull (column_finish n b q hulls from cells m) (finish_seen (sides n) b (with_hull_at n q hulls (from + m)) cells)
+  column_more q hulls m = over_more (λ i. finish_seen (sides n) b (with_hull_at n q hulls (from + i)) cells) m
+
+  pub finishes_along_none : (row : List (List (PackedHull n))) (count : ℕ) → hull_over (finishes_along n b row from cells 0) count ≡ none_span
+  finishes_along_none row count =
+      over_same (finishes_along n b row from cells 0) (λ i. none_span) count
+      (λ i lt. ap hull_of_spans (finishes_none n b row (from + i) cells)) ∙ over_nones count
+
+  pub finishes_along_more : (row : List (List (PackedHull n))) (count k : ℕ) → hull_over (finishes_along n b row from cells (k + 1)) count
+      ≡ span_hull (hull_over (finishes_along n b row from cells k) count) (column_finish n b k (get_or row k []) from cells count)
+  finishes_along_more row count k =
+      let before : ℕ → Span = finishes_along n b row from cells k in
+      let here : ℕ → Span = λ i. finish_seen (sides n) b (standing_in n row k (from + i)) cells in
+      over_same (finishes_along n b row from cells (k + 1)) (λ i. span_hull (before i) (here i)) count
+      (λ i lt. finishes_more n b row (from + i) cells k none_span)
+      ∙ over_both before here count

@@ -222,6 +222,21 @@ pub finish_for : (s : Sides) (b : Body) → IsTrue (is_automaton b) → (s ≡ B
 finish_for s b rules (inl both) = both_for s b.finish both
 finish_for s b rules (inr narrow) = narrow_for s b.finish (finish_narrow b rules narrow)
 
+-- the same is seen of it by ends that are read as single numbers
+pub finish_pointed : (s : Sides) (b : Body) (a : EachOf Span) → IsTrue (is_automaton b) → (s ≡ BothEnds) ⊎ (b.wide ≡ false) →
+    seen s (value_in sealed_spans (pointed_spans s a) (pos 0) (pos 0) b.finish) ≡ seen s (value_in sealed_spans a (pos 0) (pos 0) b.finish)
+finish_pointed s b a rules (inl both) = ap (λ z. seen s (value_in sealed_spans z (pos 0) (pos 0) b.finish)) (all_pointed s a both)
+finish_pointed s b a rules (inr narrow) = value_same s b.finish _ a (finish_narrow b rules narrow) (pointed_same s a)
+
+-- so ends that stand for an answer do, where that is the finish expression
+pub answer_shown : (s : Sides) (b : Body) (a : EachOf Span) (f : Formula) (e shown : Ends) → IsTrue (is_automaton b) →
+    (s ≡ BothEnds) ⊎ (b.wide ≡ false) → b.finish ≡ f → shown ≡ shown_ends s e →
+    IsPackOf e (value_in sealed_spans (pointed_spans s a) (pos 0) (pos 0) f) → IsPackOf shown (seen s (value_in sealed_spans a (pos 0) (pos 0) b.finish))
+answer_shown s b a f e shown rules alone is outer p =
+    let q = subst (λ z. IsPackOf e (value_in sealed_spans (pointed_spans s a) (pos 0) (pos 0) z)) (sym is) p in
+    subst (λ z. IsPackOf z (seen s (value_in sealed_spans a (pos 0) (pos 0) b.finish))) (sym outer)
+    (subst (IsPackOf (shown_ends s e)) (finish_pointed s b a rules alone) (shown_pack s e _ q))
+
 -- a finish span before the mark
 pub finished_span_seen : (s : Sides) (b : Body) (regs : EachOf Span) → IsTrue (is_automaton b) → (s ≡ BothEnds) ⊎ (b.wide ≡ false) →
     seen s (finished_span b (seen_regs s regs)) ≡ seen s (finished_span b regs)

@@ -8,7 +8,7 @@ use Rattle.ts_automaton.specs.Body.{Body}
 use Rattle.ts_glue.specs.Pairs.{Pair}
 use Rattle.ts_sweep.specs.declared.packed.PackedHull.{PackedHull}
 use Rattle.ts_sweep.specs.Sides.{sides}
-use Rattle.ts_meet.specs.Meets.{finish_hull, glued_hull, glued_seen, hull_of_spans, spans_between, spans_with}
+use Rattle.ts_meet.specs.Meets.{finish_hull, finish_seen, finishes_in, glued_hull, glued_seen, hull_of_spans, spans_between, spans_with}
 use Rattle.ts_meet.specs.Settled.{with_hull_at}
 
 -- that of so many spans, counted from 0
@@ -50,3 +50,11 @@ between_along n p left right from values cells k i =
 -- that of all finish spans at so many places from one on
 abbrev pub finish_along : (n : ℕ) → Body → List (List (PackedHull n)) → (from count cells : ℕ) → Span
 finish_along n b row from count cells = hull_over (λ i. finish_hull n b row (from + i) cells) count
+
+-- those of one state at the first m of these places, and at each place those of the first k states
+abbrev pub column_finish : (n : ℕ) → Body → ℕ → List (PackedHull n) → (from cells m : ℕ) → Span
+column_finish n b q hulls from cells m =
+    hull_over (λ i. finish_seen (sides n) b (with_hull_at n q hulls (from + i)) cells) m
+
+abbrev pub finishes_along : (n : ℕ) → Body → List (List (PackedHull n)) → (from cells k : ℕ) → ℕ → Span
+finishes_along n b row from cells k i = hull_of_spans (finishes_in n b row (from + i) cells k)

@@ -57,6 +57,7 @@ impl Gluing {
     pub(crate) fn apart(operator: Op, wide: bool) -> Gluing
         ensures parts { (result.wide ≡ wide) × (result.result ≡ operator) }
         ensures apart { result.joins ≡ false }
+        ensures worth { IsCellValue result.worth }
     {
         Gluing {
             result: operator,
@@ -83,6 +84,24 @@ impl Gluing {
             (expression self))) }
     {
         shown::<N>(self.pointed(left, right))
+    }
+
+    /// The answer of a run before the mark, where an end that its hull hasn't is read as the one that it has.
+    #[inline(always)]
+    pub(crate) fn finished<const N: usize>(self, h: &PackedHull<N>) -> Ends
+        requires registers { 6 ≤ lane_count N }
+        requires some { AreSome (lane_count N) (lanes_of N h.now) }
+        requires worth { IsCellValue self.worth }
+        requires apart { self.joins ≡ false }
+        ensures { IsPackOf result (value_in sealed_spans (pointed_spans (sides N) (spans_of (unpacked (lanes_of N h.now))))
+            (pos 0) (pos 0) (result_of self.wide self.result)) }
+    {
+        let side = Side::of(h);
+        if self.is_apart_plain(side, side) {
+            self.answer::<Plain>(side)
+        } else {
+            clamped_answer(self.result, self.wide, h)
+        }
     }
 
     /// The glued ends of two hulls before the mark, as `glued` says, for a loop over hulls: where one occurrence goes on
@@ -455,6 +474,18 @@ fn joined_pair<const N: usize>(
         held_right,
     };
     gluing.pointed_joined(left, right)
+}
+
+/// The answer of a run before the mark, with clamped sums.
+#[inline(never)]
+fn clamped_answer<const N: usize>(operator: Op, wide: bool, h: &PackedHull<N>) -> Ends
+    requires registers { 6 ≤ lane_count N }
+    requires some { AreSome (lane_count N) (lanes_of N h.now) }
+    ensures { IsPackOf result (value_in sealed_spans (pointed_spans (sides N) (spans_of (unpacked (lanes_of N h.now))))
+        (pos 0) (pos 0) (result_of wide operator)) }
+{
+    let gluing = Gluing::apart(operator, wide);
+    gluing.answer::<Clamped>(Side::of(h))
 }
 
 /// The answers of both runs joined, before the mark, with clamped sums.

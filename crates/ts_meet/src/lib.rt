@@ -16,6 +16,7 @@
 
 mod along;
 mod asked;
+mod finished;
 mod found;
 mod gluing;
 mod joints;
@@ -30,6 +31,7 @@ mod sums;
 
 pub use along::glued_along;
 pub use asked::{Asked, asked_at};
+pub use finished::finish_along;
 pub use joints::Joints;
 pub use meets::{finish_at, glued_at};
 pub use settled::settled_to;

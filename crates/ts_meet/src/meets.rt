@@ -198,7 +198,12 @@ pub fn finish_at<const N: usize>(a: &Automaton, row: &RowView<'_, N>, i: usize, 
 }
 
 /// A hull with the finish span of one state added, if any series reaches it.
-fn with_finish<const N: usize>(hull: Ends, a: &Automaton, h: &PackedHull<N>, n: u32) -> Ends
+pub(crate) fn with_finish<const N: usize>(
+    hull: Ends,
+    a: &Automaton,
+    h: &PackedHull<N>,
+    n: u32,
+) -> Ends
     requires registers { 6 ≤ lane_count N }
     requires lanes { N ≤ 64 }
     requires alone { (sides N ≡ BothEnds) ⊎ (a.now.wide ≡ false) }
