@@ -133,5 +133,5 @@ pub(crate) fn shown<const N: usize>(e: Ends) -> Ends
 pub(crate) fn are_plain(e: Ends) -> bool
     ensures { result ≡ true → ArePlain e }
 {
-    e.below <= PLAIN && e.above <= PLAIN
+    e.below.max(e.above) <= PLAIN
 }
