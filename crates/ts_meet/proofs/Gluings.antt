@@ -26,7 +26,7 @@ use Rattle.ts_sweep.specs.Lanes.{least}
 use Rattle.ts_sweep.specs.OperatorLaws.{sum_within, greater_within, less_within, lesser_within}
 use Rattle.ts_sweep.specs.Packed.{AreSome, AreWithin, IsPackOf, IsSomeEnds, IsWithin, register_span}
 use Rattle.ts_meet.specs.declared.gluing.Gluing.{Gluing}
-use Rattle.ts_meet.specs.Joints.{IsFoldPlain, IsPlain, expression, folds_held, is_add, joined_expression, leaves_out, part_by}
+use Rattle.ts_meet.specs.Joints.{IsFoldPlain, IsPlain, between_expression, both_expression, expression, folds_held, is_add, joined_expression, leaves_out, part_by}
 use Rattle.ts_meet.specs.SideLaws.{cell_within}
 use Rattle.ts_meet.specs.Sides.{AreSomeEnds, ArePackOf, TakesAny, TakesPlain, plain_by, plain_values}
 
@@ -432,6 +432,18 @@ module _ (a b : EachOf Ends) where
 pub trims_is : (a : ℕ) → nat_lt 0 a ≡ leaves_out a
 trims_is zero = refl
 trims_is (suc a) = grind arith
+
+-- of narrow automata nothing is taken away
+
+pub between_is : (g : Gluing) → g.wide ≡ false → g.trims ≡ true → joined_expression g ≡ between_expression g
+between_is g narrow trims =
+    ap (λ w. join_of g.result (fold_of w g.fold (part_by g))) narrow
+    ∙ ap (λ t. join_of g.result (cond t (folded_between g.fold Whole g.held_left g.held_right g.worth) (folded_both g.fold Whole g.worth))) trims
+
+pub both_is : (g : Gluing) → g.wide ≡ false → g.trims ≡ false → joined_expression g ≡ both_expression g
+both_is g narrow keeps =
+    ap (λ w. join_of g.result (fold_of w g.fold (part_by g))) narrow
+    ∙ ap (λ t. join_of g.result (cond t (folded_between g.fold Whole g.held_left g.held_right g.worth) (folded_both g.fold Whole g.worth))) keeps
 
 -- how a pair of states is glued is its expression
 

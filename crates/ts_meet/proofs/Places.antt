@@ -123,7 +123,8 @@ module _ (n : ℕ) (p : Pair) (from : ℕ) (values : List ℤ) (cells : ℕ) whe
         (pair_along n p q m left (get_or right m []) from values cells count)
     with_along_more m =
         let before : ℕ → Span = with_along n p q left right from values cells m so_far in
-        let pair : ℕ → Span = λ i. glued_seen (sides n) p (with_hull_at n q left (from + i)) (standing_in n right m (from + i)) (get_or values i (pos 0)) cells in
+        let pair : ℕ → Span =
+        λ i. glued_seen (sides n) p (with_hull_at n q left (from + i)) (standing_in n right m (from + i)) (get_or values i (pos 0)) cells in
         over_same (with_along n p q left right from values cells (m + 1) so_far) (λ i. span_hull (before i) (pair i)) count
         (λ i lt. with_more n p (with_hull_at n q left (from + i)) right (from + i) (get_or values i (pos 0)) cells m (so_far i))
         ∙ over_both before pair count

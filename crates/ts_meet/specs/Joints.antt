@@ -6,6 +6,7 @@ use Rattle.ts_automaton.specs.Body.{node_at}
 use Rattle.ts_automaton.specs.Registers.{EachOf}
 use Rattle.ts_glue.specs.Glue.{Glue, apart, fold_of, folded_between, folded_both, fold_op, glue_of, is_join, is_wide, join_of, result_op, worth}
 use Rattle.ts_glue.specs.declared.operand.Part.{Part}
+use Rattle.ts_glue.specs.declared.operand.Part.TheVariants.{Whole}
 use Rattle.ts_glue.specs.Pairs.{Pair}
 use Rattle.ts_sweep.specs.declared.packed.Ends.{Ends}
 use Rattle.ts_sweep.specs.Fronts.{ArePlain}
@@ -22,6 +23,13 @@ joined_expression g = join_of g.result (fold_of g.wide g.fold (part_by g))
 
 abbrev pub expression : Gluing → Glue
 expression g = if g.joins then joined_expression g else apart g.wide g.result
+
+-- that of narrow automata where an occurrence goes on: one that leaves a cell out at its end, or keeps its last cell
+abbrev pub between_expression : Gluing → Glue
+between_expression g = join_of g.result (folded_between g.fold Whole g.held_left g.held_right g.worth)
+
+abbrev pub both_expression : Gluing → Glue
+both_expression g = join_of g.result (folded_both g.fold Whole g.worth)
 
 -- the one where an occurrence goes on, told part by part
 abbrev pub told_joined : (o fold : Op) → ℤ → (wide trims held_left held_right : Bool) → Glue

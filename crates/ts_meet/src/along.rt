@@ -19,6 +19,7 @@ ghost use Rattle.ts_sweep.specs.Sides.{BothEnds, lane_count, sides};
 use crate::gluing::Gluing;
 use crate::joints::Joints;
 use crate::marked::{hull_of_both, joined, marked, nothing, span_of};
+use crate::seam::{Apart, Between, Both, Seam};
 use ts_automaton::Op;
 use ts_base::Span;
 use ts_row::RowView;
@@ -189,7 +190,7 @@ fn along_apart<const N: usize>(
         (pair_along N p q r left.now right.now from values.now cells (length values.now)) }
 {
     let gluing = Gluing::apart(operator, wide);
-    along_glued(joints, gluing, left, right, values, from, cells)
+    along_glued(Apart, joints, gluing, left, right, values, from, cells)
 }
 
 /// The hull where one occurrence goes on from the state `q` on the left to `r` on the right.
@@ -283,12 +284,17 @@ fn along_folded<const N: usize>(
         (pair_along N p q r left.now right.now from values.now cells (length values.now)) }
 {
     let gluing = joints.joined(operator, fold, q, r);
-    along_glued(joints, gluing, left, right, values, from, cells)
+    if joints.trims {
+        along_glued(Between, joints, gluing, left, right, values, from, cells)
+    } else {
+        along_glued(Both, joints, gluing, left, right, values, from, cells)
+    }
 }
 
 /// The hull of the glued spans of two states that are glued so, but for what the cell is worth.
 #[inline(always)]
-fn along_glued<const N: usize>(
+fn along_glued<S: Seam<N>, const N: usize>(
+    seam: S,
     joints: &Joints,
     gluing: Gluing,
     left: &[PackedHull<N>],
@@ -297,6 +303,7 @@ fn along_glued<const N: usize>(
     from: usize,
     cells: u32,
 ) -> Ends
+    requires fits { S.fits gluing }
     requires registers { 6 ≤ lane_count N }
     requires alone { (sides N ≡ BothEnds) ⊎ (gluing.wide ≡ false) }
     requires left { ArePlaces N (from + length values.now) left.now }
@@ -308,6 +315,7 @@ fn along_glued<const N: usize>(
     let mut hull = nothing();
     for i in 0..values.len() {
         hull = with_value(
+            seam,
             hull,
             joints,
             gluing,
@@ -322,7 +330,8 @@ fn along_glued<const N: usize>(
 
 /// A hull with the glued span of two hulls at a value added, if any series reaches both states.
 #[inline(always)]
-fn with_value<const N: usize>(
+fn with_value<S: Seam<N>, const N: usize>(
+    seam: S,
     hull: Ends,
     joints: &Joints,
     gluing: Gluing,
@@ -331,6 +340,7 @@ fn with_value<const N: usize>(
     right: &PackedHull<N>,
     cells: u32,
 ) -> Ends
+    requires fits { S.fits gluing }
     requires registers { 6 ≤ lane_count N }
     requires alone { (sides N ≡ BothEnds) ⊎ (gluing.wide ≡ false) }
     requires left { IsPacked (lane_count N) (lanes_of N left.now) }
@@ -341,12 +351,21 @@ fn with_value<const N: usize>(
         (glued_seen (sides N) p (with_hull N q left.now) (with_hull N r right.now) value cells)) }
 {
     let worth = joints.unit.worth(value);
-    with_glued(hull, joints, gluing.with_worth(worth), left, right, cells)
+    with_glued(
+        seam,
+        hull,
+        joints,
+        gluing.with_worth(worth),
+        left,
+        right,
+        cells,
+    )
 }
 
 /// A hull with the glued span of two hulls added, if any series reaches both states.
 #[inline(always)]
-fn with_glued<const N: usize>(
+fn with_glued<S: Seam<N>, const N: usize>(
+    seam: S,
     hull: Ends,
     joints: &Joints,
     gluing: Gluing,
@@ -354,6 +373,7 @@ fn with_glued<const N: usize>(
     right: &PackedHull<N>,
     cells: u32,
 ) -> Ends
+    requires fits { S.fits gluing }
     requires registers { 6 ≤ lane_count N }
     requires alone { (sides N ≡ BothEnds) ⊎ (gluing.wide ≡ false) }
     requires left { IsPacked (lane_count N) (lanes_of N left.now) }
@@ -371,6 +391,6 @@ fn with_glued<const N: usize>(
     }
     joined(
         hull,
-        marked(joints.mark, gluing.glued_in_loop(left, right), cells),
+        marked(joints.mark, seam.glued(gluing, left, right), cells),
     )
 }

@@ -73,8 +73,8 @@ impl Joints {
         }
     }
 
-    /// How the registers are glued between two states from the one of which one occurrence goes on to the other, but for
-    /// what the cell is worth. `operator` is the one that joins results, `fold` the one that folds the occurrence.
+    /// How the registers are glued between two states from the one of which one occurrence goes on to the other, but
+    /// for what the cell is worth. `operator` is the one that joins results, `fold` the one that folds the occurrence.
     #[inline(always)]
     pub(crate) fn joined(&self, operator: Op, fold: Op, left: u8, right: u8) -> Gluing
         requires operator { operator ≡ self.now.result }
@@ -84,6 +84,8 @@ impl Joints {
         ensures value { (p : Pair) → AreJoints p self.now → is_join p.table left right ≡ true →
             IsGluing p left right result }
         ensures wide { result.wide ≡ self.now.wide }
+        ensures joins { result.joins ≡ true }
+        ensures trims { result.trims ≡ self.now.trims }
     {
         Gluing {
             result: operator,

@@ -6,8 +6,20 @@ ghost use Rattle.ts_base.specs.declared.ext.Ext.TheVariants.{Int};
 ghost use Rattle.ts_base.specs.Limits.{IsCellValue};
 ghost use Rattle.ts_glue.specs.Glue.{GlueTakes, apart, fold_of, folded_between, folded_both, glue_in, held_of, result_of};
 ghost use Rattle.ts_hull.specs.Sealed.{sealed_spans};
-ghost use Rattle.ts_meet.specs.Joints.{IsFoldPlain, IsPlain, expression, folds_held, is_add, joined_expression, part_by, told_joined, with_worth};
-ghost use Rattle.ts_meet.specs.Sides.{ends_in, pointed_spans};
+ghost use Rattle.ts_meet.specs.Joints.{
+  IsFoldPlain,
+  IsPlain,
+  between_expression,
+  both_expression,
+  expression,
+  folds_held,
+  is_add,
+  joined_expression,
+  part_by,
+  told_joined,
+  with_worth,
+};
+ghost use Rattle.ts_meet.specs.Sides.{TakesPlain, ends_in, plain_values, pointed_spans};
 ghost use Rattle.ts_row.specs.Rows.{lanes_of};
 ghost use Rattle.ts_sweep.specs.Fronts.{ArePlain};
 ghost use Rattle.ts_sweep.specs.Packed.{AreSome, IsPackOf, unpacked};
@@ -93,7 +105,8 @@ impl Gluing {
         requires some { AreSome (lane_count N) (lanes_of N h.now) }
         requires worth { IsCellValue self.worth }
         requires apart { self.joins ≡ false }
-        ensures { IsPackOf result (value_in sealed_spans (pointed_spans (sides N) (spans_of (unpacked (lanes_of N h.now))))
+        ensures { IsPackOf result (value_in sealed_spans
+            (pointed_spans (sides N) (spans_of (unpacked (lanes_of N h.now))))
             (pos 0) (pos 0) (result_of self.wide self.result)) }
     {
         let side = Side::of(h);
@@ -104,10 +117,9 @@ impl Gluing {
         }
     }
 
-    /// The glued ends of two hulls before the mark, as `glued` says, for a loop over hulls: where one occurrence goes on
-    /// they are found in place too, as far as the numbers are small.
+    /// The glued ends of two hulls before the mark, where no occurrence goes on.
     #[inline(always)]
-    pub(crate) fn glued_in_loop<const N: usize>(
+    pub(crate) fn glued_apart<const N: usize>(
         self,
         left: &PackedHull<N>,
         right: &PackedHull<N>,
@@ -117,48 +129,73 @@ impl Gluing {
         requires left { AreSome (lane_count N) (lanes_of N left.now) }
         requires right { AreSome (lane_count N) (lanes_of N right.now) }
         requires worth { IsCellValue self.worth }
+        requires apart { self.joins ≡ false }
         ensures { IsPackOf result (seen (sides N) (glue_in sealed_spans
             (spans_of (unpacked (lanes_of N left.now))) (spans_of (unpacked (lanes_of N right.now)))
             (expression self))) }
     {
-        shown::<N>(self.pointed_in_loop(left, right))
+        shown::<N>(self.pointed_apart(left, right))
     }
 
-    /// The glued ends of two hulls before the mark, where an end that they haven't is read as the one that they have,
-    /// for a loop over hulls.
+    /// The glued ends of two hulls before the mark, where one occurrence goes on that leaves a cell out at its end.
     #[inline(always)]
-    fn pointed_in_loop<const N: usize>(self, left: &PackedHull<N>, right: &PackedHull<N>) -> Ends
+    pub(crate) fn glued_between<const N: usize>(
+        self,
+        left: &PackedHull<N>,
+        right: &PackedHull<N>,
+    ) -> Ends
         requires registers { 6 ≤ lane_count N }
+        requires alone { (sides N ≡ BothEnds) ⊎ (self.wide ≡ false) }
         requires left { AreSome (lane_count N) (lanes_of N left.now) }
         requires right { AreSome (lane_count N) (lanes_of N right.now) }
         requires worth { IsCellValue self.worth }
-        ensures { IsPackOf result (glue_in sealed_spans
-            (pointed_spans (sides N) (spans_of (unpacked (lanes_of N left.now))))
-            (pointed_spans (sides N) (spans_of (unpacked (lanes_of N right.now)))) (expression self)) }
+        requires joined { self.joins ≡ true }
+        requires trims { self.trims ≡ true }
+        ensures { IsPackOf result (seen (sides N) (glue_in sealed_spans
+            (spans_of (unpacked (lanes_of N left.now))) (spans_of (unpacked (lanes_of N right.now)))
+            (expression self))) }
     {
-        if self.joins {
-            self.joined_in_loop(left, right)
-        } else {
-            self.pointed_apart(left, right)
-        }
+        shown::<N>(self.joined_between(left, right))
     }
 
-    /// The glued ends of two hulls before the mark, where one occurrence goes on, for a loop over hulls: if all numbers
-    /// that are added are small, sums are those of the lanes; otherwise a call clamps them.
+    /// The glued ends of two hulls before the mark, where one occurrence goes on that keeps its last cell.
     #[inline(always)]
-    fn joined_in_loop<const N: usize>(self, left: &PackedHull<N>, right: &PackedHull<N>) -> Ends
+    pub(crate) fn glued_both<const N: usize>(
+        self,
+        left: &PackedHull<N>,
+        right: &PackedHull<N>,
+    ) -> Ends
+        requires registers { 6 ≤ lane_count N }
+        requires alone { (sides N ≡ BothEnds) ⊎ (self.wide ≡ false) }
+        requires left { AreSome (lane_count N) (lanes_of N left.now) }
+        requires right { AreSome (lane_count N) (lanes_of N right.now) }
+        requires worth { IsCellValue self.worth }
+        requires joined { self.joins ≡ true }
+        requires trims { self.trims ≡ false }
+        ensures { IsPackOf result (seen (sides N) (glue_in sealed_spans
+            (spans_of (unpacked (lanes_of N left.now))) (spans_of (unpacked (lanes_of N right.now)))
+            (expression self))) }
+    {
+        shown::<N>(self.joined_both(left, right))
+    }
+
+    /// The glued ends of two hulls before the mark, where the cell lies between both sides of an occurrence: in place
+    /// if all numbers that are added are small, by a call otherwise.
+    #[inline(always)]
+    fn joined_between<const N: usize>(self, left: &PackedHull<N>, right: &PackedHull<N>) -> Ends
         requires registers { 6 ≤ lane_count N }
         requires left { AreSome (lane_count N) (lanes_of N left.now) }
         requires right { AreSome (lane_count N) (lanes_of N right.now) }
         requires worth { IsCellValue self.worth }
         requires joined { self.joins ≡ true }
+        requires trims { self.trims ≡ true }
         ensures { IsPackOf result (glue_in sealed_spans
             (pointed_spans (sides N) (spans_of (unpacked (lanes_of N left.now))))
             (pointed_spans (sides N) (spans_of (unpacked (lanes_of N right.now)))) (joined_expression self)) }
     {
         let (first, second) = (Side::of(left), Side::of(right));
         if self.is_joined_plain(first, second) {
-            self.joined_by::<Plain>(first, second)
+            self.narrow_between(first, second)
         } else {
             joined_pair(
                 self.result,
@@ -172,6 +209,69 @@ impl Gluing {
                 right,
             )
         }
+    }
+
+    /// The glued ends of two hulls before the mark, where both sides of an occurrence have the cell: in place if all
+    /// numbers that are added are small, by a call otherwise.
+    #[inline(always)]
+    fn joined_both<const N: usize>(self, left: &PackedHull<N>, right: &PackedHull<N>) -> Ends
+        requires registers { 6 ≤ lane_count N }
+        requires left { AreSome (lane_count N) (lanes_of N left.now) }
+        requires right { AreSome (lane_count N) (lanes_of N right.now) }
+        requires worth { IsCellValue self.worth }
+        requires joined { self.joins ≡ true }
+        requires trims { self.trims ≡ false }
+        ensures { IsPackOf result (glue_in sealed_spans
+            (pointed_spans (sides N) (spans_of (unpacked (lanes_of N left.now))))
+            (pointed_spans (sides N) (spans_of (unpacked (lanes_of N right.now)))) (joined_expression self)) }
+    {
+        let (first, second) = (Side::of(left), Side::of(right));
+        if self.is_joined_plain(first, second) {
+            self.narrow_both(first, second)
+        } else {
+            joined_pair(
+                self.result,
+                self.fold,
+                self.worth,
+                self.wide,
+                self.trims,
+                self.held_left,
+                self.held_right,
+                left,
+                right,
+            )
+        }
+    }
+
+    /// The glued ends before the mark of narrow automata with the sums of the lanes, where the cell lies between both
+    /// sides.
+    #[inline(always)]
+    fn narrow_between(self, left: Side, right: Side) -> Ends
+        requires fits { GlueTakes TakesPlain plain_values (ends_in left) (ends_in right) (between_expression self) }
+        requires worth { IsCellValue self.worth }
+        ensures { result ≡ glue_in plain_values (ends_in left) (ends_in right) (between_expression self) }
+    {
+        let join = Operator::Fold(self.result);
+        Plain::joined(
+            join,
+            Plain::joined(join, left.r, right.r),
+            self.folded_between::<Plain>(self.fold, Part::Whole, left, right),
+        )
+    }
+
+    /// The glued ends before the mark of narrow automata with the sums of the lanes, where both sides have the cell.
+    #[inline(always)]
+    fn narrow_both(self, left: Side, right: Side) -> Ends
+        requires fits { GlueTakes TakesPlain plain_values (ends_in left) (ends_in right) (both_expression self) }
+        requires worth { IsCellValue self.worth }
+        ensures { result ≡ glue_in plain_values (ends_in left) (ends_in right) (both_expression self) }
+    {
+        let join = Operator::Fold(self.result);
+        Plain::joined(
+            join,
+            Plain::joined(join, left.r, right.r),
+            self.folded_both::<Plain>(self.fold, Part::Whole, left, right),
+        )
     }
 
     /// The glued ends of two hulls before the mark, where an end that they haven't is read as the one that they have.
@@ -419,7 +519,8 @@ impl Gluing {
     #[inline(always)]
     fn is_joined_plain(self, left: Side, right: Side) -> bool
         requires { self.joins ≡ true }
-        ensures { result ≡ true → IsPlain self (ends_in left) (ends_in right) }
+        ensures plain { result ≡ true → IsPlain self (ends_in left) (ends_in right) }
+        ensures narrow { result ≡ true → self.wide ≡ false }
     {
         let adds = is_add(self.result);
         if self.wide || adds && !(are_plain(left.r) && are_plain(right.r)) {

@@ -24,6 +24,7 @@ mod lane;
 mod marked;
 mod meets;
 mod needed;
+mod seam;
 mod settled;
 mod side;
 mod spot;

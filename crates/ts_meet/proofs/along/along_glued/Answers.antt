@@ -31,7 +31,7 @@ with_value-hull-requires g c =
     let there = subst (λ z. IsPacked (lane_count n) (lanes_of n z))
     (sym (read_there n right at _ c.index-right-from.is (let e = given.right.0 in omega (arith, e, place)))) (given.right.1 at place) in
     let few = given.values i before in let fits : SFits w64 x = search rules in
-    (search rules, (given.registers, (given.alone, (here, (there, subst IsCellValue (sym (to_z-of_z w64 x fits)) few)))))
+    (search rules, (given.fits, (given.registers, (given.alone, (here, (there, subst IsCellValue (sym (to_z-of_z w64 x fits)) few))))))
 
 pub loop-i-preserved : goal.loop-i-preserved
 loop-i-preserved g c p q r h is =

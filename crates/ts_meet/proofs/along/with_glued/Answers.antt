@@ -24,18 +24,18 @@ returns-then-not-is_some-2 g c p q r x s h is stands =
     (part_none (sides g.row.N) p q r (spans_of (unpacked xs)) (spans_of (unpacked ys)) x c.args.cells
     (none_there (lane_count g.row.N) ys c.requires.registers c.requires.right (sym c.is_some-2.ensures ∙ c.if-not-is_some-2.true)))
 
-pub glued_in_loop-requires : goal.glued_in_loop-requires
-glued_in_loop-requires g c =
+pub glued-requires : goal.glued-requires
+glued-requires g c =
     let n = lane_count g.row.N in
     let here = not_nothing n (lanes_of g.row.N c.args.left.now) (sym c.is_some.ensures ∙ c.if-not-is_some.false) c.requires.left in
     let there = not_nothing n (lanes_of g.row.N c.args.right.now) (sym c.is_some-2.ensures ∙ c.if-not-is_some-2.false) c.requires.right in
-    (search rules, (c.requires.registers, (c.requires.alone, (here, (there, c.requires.worth)))))
+    (search rules, (c.requires.fits, (c.requires.registers, (c.requires.alone, (here, (there, c.requires.worth))))))
 
 pub returns : goal.returns
 returns g c p q r x s h is stands =
     let n = lane_count g.row.N in let xs = lanes_of g.row.N c.args.left.now in let ys = lanes_of g.row.N c.args.right.now in
     pair_taken (sides g.row.N) p c.args.joints.now q r (spans_of (unpacked xs)) (spans_of (unpacked ys)) x c.args.cells
-    (expression c.args.gluing) c.args.hull c.glued_in_loop.result c.marked.result c.joined.result s h
+    (expression c.args.gluing) c.args.hull c.glued.result c.marked.result c.joined.result s h
     (some_unpacked n xs c.requires.registers (not_nothing n xs (sym c.is_some.ensures ∙ c.if-not-is_some.false) c.requires.left))
     (some_unpacked n ys c.requires.registers (not_nothing n ys (sym c.is_some-2.ensures ∙ c.if-not-is_some-2.false) c.requires.right))
-    is c.glued_in_loop.ensures c.marked.ensures c.joined.ensures stands
+    is c.glued.ensures c.marked.ensures c.joined.ensures stands
