@@ -1,5 +1,5 @@
 //! Which ends of hulls are enough for a question: most ask of spans whether they reach far enough up, or down, and rows
-//! of that end alone take half the work.
+//! of that end alone take some six tenths of the work.
 //!
 //! A mark puts a number in the place of an infinite end. So it may bring the end that isn't kept, which is infinite, on
 //! the other side of a bound: then rows have both.
