@@ -25,6 +25,8 @@ mod last_values;
 #[cfg(test)]
 mod met;
 #[cfg(test)]
+mod packed_rows;
+#[cfg(test)]
 mod ranges;
 #[cfg(test)]
 mod spared;

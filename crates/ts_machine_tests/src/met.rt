@@ -1,28 +1,27 @@
 //! Packed rows that meet at a cell tell the spans that tables of plain hulls tell: at each value of each cell of a box,
 //! under all sixteen pairs of aggregator and feature.
 
-ghost use Rattle.std.specs.Prelude.{◌≡◌, ◌<◌, ◌≤◌, IfOk, IsSome, Some, length};
+ghost use Rattle.std.specs.Prelude.{◌≡◌, ◌<◌, ◌≤◌, IsSome, Some, length};
 ghost use Rattle.ts_base.specs.Limits.{IsCellValue};
 ghost use Rattle.ts_bound.specs.TermSpans.{LooksIn, automata_of};
 ghost use Rattle.ts_domain.specs.BoxSeries.{IsCell, cell_of};
 ghost use Rattle.ts_glue.specs.Machines.{forward_of, pair_of, reverse_of};
 ghost use Rattle.ts_meet.specs.Meets.{HasPlace};
-ghost use Rattle.ts_row.specs.Rows.{IsRow};
 ghost use Rattle.ts_sweep.specs.Sides.{BothEnds, has_wide, lane_count, sides};
 
+use super::packed_rows::{row_at, whole_row};
 use super::terms::{PAIRS, term_of};
 use super::told::{cells_of, looks_in, spans_at};
 use std::alloc::Global;
 use std::test::Fail;
 use ts_automaton::Automaton;
 use ts_base::{Memory, Span};
-use ts_bound::CellValues;
 use ts_compile::compile_term;
-use ts_domain::{Boxed, Domain};
+use ts_domain::Boxed;
 use ts_glue::Machine;
 use ts_meet::{Asked, Joints, Spot, asked_at, finish_at, glued_at};
 use ts_pattern::{PatternId, Term};
-use ts_row::{PackedRow, Plan, RowView, next_row, start_row};
+use ts_row::RowView;
 use ts_sweep::packed::Ends;
 
 /// Ranges of values, two of them with gaps.
@@ -32,106 +31,6 @@ static CELLS: &str =
 // The text behind a function, so that no proof reads it.
 fn cells() -> &'static str {
     CELLS
-}
-
-/// The row of the cell at which runs start.
-fn first_row<const N: usize>(
-    alloc: Global,
-    a: &Automaton,
-    cell: &Domain,
-) -> Result<PackedRow<N>, Memory>
-    requires width { a.now.wide ≡ has_wide N }
-    requires registers { 6 ≤ lane_count N }
-    requires lanes { N ≤ 64 }
-    ensures { IfOk result (λ r. IsRow N (length a.now.states) (length cell.now) r) }
-{
-    let mut row = PackedRow::empty(alloc);
-    start_row(alloc, a, cell.size() as usize, &mut row)?;
-    Ok(row)
-}
-
-/// All places of the row of an automaton at a cell, lent.
-fn whole_row<'a, const N: usize>(
-    a: &Automaton,
-    cell: &Domain,
-    row: &'a PackedRow<N>,
-) -> RowView<'a, N>
-    requires { IsRow N (length a.now.states) (length cell.now) row.now }
-    ensures { result ≡ row.now }
-{
-    row.part(0, cell.size() as usize)
-}
-
-/// That of the next cell.
-fn row_after<const N: usize>(
-    alloc: Global,
-    a: &Automaton,
-    row: &PackedRow<N>,
-    cell: &Domain,
-    next_cell: &Domain,
-) -> Result<PackedRow<N>, Memory>
-    requires width { a.now.wide ≡ has_wide N }
-    requires registers { 6 ≤ lane_count N }
-    requires lanes { N ≤ 64 }
-    requires row { IsRow N (length a.now.states) (length cell.now) row.now }
-    ensures { IfOk result (λ r. IsRow N (length a.now.states) (length next_cell.now) r) }
-{
-    let plan = Plan::of(a);
-    let values = CellValues::of(alloc, cell)?;
-    let next_values = CellValues::of(alloc, next_cell)?;
-    let mut next = PackedRow::empty(alloc);
-    next_row(
-        alloc,
-        a,
-        &plan,
-        values.lend(),
-        &whole_row(a, cell, row),
-        next_values.lend(),
-        &mut next,
-    )?;
-    Ok(next)
-}
-
-/// The row of cell `k`, read from the first cell on.
-fn ahead_row<const N: usize>(
-    alloc: Global,
-    a: &Automaton,
-    cells: &Boxed,
-    k: u32,
-) -> Result<PackedRow<N>, Memory>
-    requires width { a.now.wide ≡ has_wide N }
-    requires registers { 6 ≤ lane_count N }
-    requires lanes { N ≤ 64 }
-    requires cell { IsCell k cells.now }
-    ensures { IfOk result (λ r. IsRow N (length a.now.states) (length (cell_of k cells.now)) r) }
-{
-    let mut row = first_row(alloc, a, cells.cell(1))?;
-    for cell in 1..k {
-        row = row_after(alloc, a, &row, cells.cell(cell), cells.cell(cell + 1))?;
-    }
-    Ok(row)
-}
-
-/// The same, read from the last cell back.
-fn back_row<const N: usize>(
-    alloc: Global,
-    a: &Automaton,
-    cells: &Boxed,
-    k: u32,
-) -> Result<PackedRow<N>, Memory>
-    requires width { a.now.wide ≡ has_wide N }
-    requires registers { 6 ≤ lane_count N }
-    requires lanes { N ≤ 64 }
-    requires cell { IsCell k cells.now }
-    ensures { IfOk result (λ r. IsRow N (length a.now.states) (length (cell_of k cells.now)) r) }
-{
-    let n = cells.cells();
-    let mut row = first_row(alloc, a, cells.cell(n))?;
-    for read in 0..n - k {
-        let cell = n - read;
-        row = row_after(alloc, a, &row, cells.cell(cell), cells.cell(cell - 1))?;
-    }
-    Ok(row)
 }
 
 /// What no span has.
@@ -217,8 +116,8 @@ fn span_in_lanes<const N: usize>(
         return Ok(None);
     }
     let joints = Joints::of(m);
-    let left = ahead_row::<N>(alloc, m.forward(), cells, k)?;
-    let right = back_row::<N>(alloc, reverse, cells, k)?;
+    let left = row_at::<N>(alloc, m.forward(), cells, false, k)?;
+    let right = row_at::<N>(alloc, reverse, cells, true, k)?;
     let spot = Spot {
         place: i as usize,
         value,
@@ -256,7 +155,7 @@ fn end_in_lanes<const N: usize>(
     requires place { i < length (cell_of (length cells.now.present) cells.now) }
 {
     let n = cells.cells();
-    let row = ahead_row::<N>(alloc, a, cells, n)?;
+    let row = row_at::<N>(alloc, a, cells, false, n)?;
     Ok(finish_at(a, &whole_row(a, cells.cell(n), &row), i as usize, n))
 }
 
