@@ -60,7 +60,7 @@ const UPPER_LEFT: Numbers = (25, 4, 130);
 const UPPER_RIGHT: Numbers = (7600, 58, 410_000);
 
 /// The machine of the term that a row begins with.
-fn machine_of(alloc: Global, term: &str) -> Option<Machine> {
+pub(crate) fn machine_of(alloc: Global, term: &str) -> Option<Machine> {
     let aggregator = aggregator_of(word(term, 0).as_bytes())?;
     let feature = feature_of(word(term, 1).as_bytes())?;
     let pattern = pattern_of(word(term, 2).as_bytes())?;

@@ -25,6 +25,8 @@ mod last_values;
 #[cfg(test)]
 mod met;
 #[cfg(test)]
+mod met_one_end;
+#[cfg(test)]
 mod packed_rows;
 #[cfg(test)]
 mod ranges;
