@@ -124,22 +124,26 @@ fn refused_rows() -> &'static [&'static str] {
 }
 
 /// The text of an automaton.
-fn written(alloc: Global, way: Direction, automaton: &Automaton) -> Result<Vec<u8>, Memory> {
+pub(crate) fn written(
+    alloc: Global,
+    direction: Direction,
+    automaton: &Automaton,
+) -> Result<Vec<u8>, Memory> {
     let mut text = Vec::new(alloc);
-    write_head(way, automaton.wide(), &mut text)?;
+    write_head(direction, automaton.wide(), &mut text)?;
     write(automaton, &mut text)?;
     Ok(text)
 }
 
 /// Whether a text is read, and written again as it was.
 fn is_taken(alloc: Global, text: &str) -> Result<bool, Memory> {
-    let way = if text.starts_with("forward") {
+    let direction = if text.starts_with("forward") {
         Direction::Forward
     } else {
         Direction::Reverse
     };
     match read(alloc, text.as_bytes()) {
-        Ok(automaton) => Ok(written(alloc, way, &automaton)?.as_slice() == text.as_bytes()),
+        Ok(automaton) => Ok(written(alloc, direction, &automaton)?.as_slice() == text.as_bytes()),
         Err(_) => Ok(false),
     }
 }

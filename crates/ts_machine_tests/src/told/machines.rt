@@ -297,7 +297,7 @@ pub(super) fn boxes() -> &'static str {
 }
 
 /// What results begin with goes by the first letters of the names.
-fn text_of(name: &str) -> &'static str {
+pub(crate) fn text_of(name: &str) -> &'static str {
     match name {
         "sum_width_peak" => SUM_WIDTH_PEAK,
         "max_width_peak" => MAX_WIDTH_PEAK,
