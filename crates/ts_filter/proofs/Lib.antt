@@ -37,3 +37,4 @@ mod AlikeLaws
 mod RoomLaws
 mod RowParts
 mod ShownRows
+mod ManyLaws

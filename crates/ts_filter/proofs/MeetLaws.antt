@@ -74,7 +74,7 @@ place_there m a before values i v row s is_s is e =
     subst (λ k. HasPlace m k i row) (sym is_s) (row_place m (length a.states) (length values) i row is.is_row (slice_get_within values i v e))
 
 -- and one at each place before another
-places_there : (m : ℕ) (a : Body) (before : Box) (values : List ℤ) (row : Columns m) (s : ℕ) → s ≡ length a.states → IsPackedRow m a before values row →
+pub places_there : (m : ℕ) (a : Body) (before : Box) (values : List ℤ) (row : Columns m) (s : ℕ) → s ≡ length a.states → IsPackedRow m a before values row →
     (to : ℕ) → to ≤ length values → HavePlaces m s to row
 places_there m a before values row s is_s is to inside =
     subst (λ k. HavePlaces m k to row) (sym is_s) (row_places m (length a.states) (length values) to row is.is_row inside)
@@ -238,7 +238,7 @@ module _ (f : Body) (before behind : Box) (values : List ℤ) (i : ℕ) (v : ℤ
 module _ (asked : Question) (f : Body) (place : ℕ) (cells : Box) (values : List ℤ) (i : ℕ) (v : ℤ) (row : AnyRow) (side : BackSide)
     (same : form_of (viewed side.row) ≡ form_of row) (ahead : IsRowOf f (cells_before place cells) values row) (e : slice_get values i ≡ Some v) (n : ℕ)
     (is_n : n ≡ length cells) (served : IsServed (form_sides (form_of row)) f.mark n asked) where
-  split_found : (p : Pair) → IsPairOf f (Some p) → p.forward.wide ≡ is_wide p → IsSide (Some p) (cells_after place cells) values side →
+  pub split_found : (p : Pair) → IsPairOf f (Some p) → p.forward.wide ≡ is_wide p → IsSide (Some p) (cells_after place cells) values side →
       FindsAlike asked (glued_between p row (viewed side.row) i v n) (split_at f (Some p) place cells v)
   split_found p is width h =
       let ls = hulls_at f (cells_before place cells) v in let rs = back_hulls (Some p) (cells_after place cells) v in

@@ -1,9 +1,10 @@
 -- The hulls of one cell: its row of the forward automaton, and that of the reverse one.
-use Rattle.std.specs.Prelude.{◌≡◌, ◌≤◌, ℕ, ℤ, List, length, Option, None, Some, MatchOption, slice_get}
+use Rattle.std.specs.Prelude.{◌≡◌, ◌≤◌, ◌-◌, ℕ, ℤ, List, length, map, take, drop, Option, None, Some, MatchOption, slice_get}
+use Rattle.ts_base.specs.declared.span.Span.{Span}
 use Rattle.ts_base.specs.Windows.{looked_at}
 use Rattle.ts_bound.specs.HullTables.{cells_before, cells_after}
 use Rattle.ts_bound.specs.Looks.{count_looked, first_looked, last_looked, place_in}
-use Rattle.ts_bound.specs.TermSpans.{Automata, LooksIn, value_span}
+use Rattle.ts_bound.specs.TermSpans.{Automata, LooksIn, span_of_all, value_span}
 use Rattle.ts_glue.specs.Pairs.{Pair}
 use Rattle.ts_meet.specs.Joints.{AreJoints}
 use Rattle.ts_meet.specs.Settled.{Between}
@@ -11,7 +12,7 @@ use Rattle.ts_sweep.specs.Sides.{Sides}
 use Rattle.ts_filter.specs.declared.any_row.AnyRow.{AnyRow}
 use Rattle.ts_filter.specs.declared.cell_hulls.BackSide.{BackSide}
 use Rattle.ts_filter.specs.declared.question.Question.{Question}
-use Rattle.ts_filter.specs.Alike.{IsServed}
+use Rattle.ts_filter.specs.Alike.{FindsAlike, IsServed}
 use Rattle.ts_filter.specs.AnyRows.{IsRowOf, form_of, viewed}
 use Rattle.ts_filter.specs.Boxes.{Box, values_at}
 use Rattle.ts_filter.specs.Question.{Excludes}
@@ -76,3 +77,11 @@ abbrev pub AreMet : Question → AtCell → (from to : ℕ) → Type 0
 AreMet asked t from to =
     Between from to (λ i. (v : ℤ) → slice_get (values_at t.cell t.cells) i ≡ Some v →
     Excludes asked (value_span t.machine t.cell t.cells v) → ⊥)
+
+-- the values at the places from one on, before another
+abbrev pub places_of : (from to : ℕ) → List ℤ → List ℤ
+places_of from to values = take (to - from) (drop from values)
+
+-- each question that these ends serve finds the same in a span as in the hull of the spans f of these values
+abbrev pub FindsAll : (Question → Type 0) → Span → (ℤ → Span) → List ℤ → Type 0
+FindsAll Serves s f values = (asked : Question) → Serves asked → FindsAlike asked s (span_of_all (map f values))

@@ -2,7 +2,7 @@
 //! tells these forms apart, once a row and once a value of a cell.
 
 ghost use Rattle.std.specs.List.{All};
-ghost use Rattle.std.specs.Prelude.{◌≡◌, ◌≤◌, ℤ, List, [], ◌∷◌, IfOk, IsTrue, length};
+ghost use Rattle.std.specs.Prelude.{◌≡◌, ◌+◌, ◌≤◌, ℤ, pos, get_or, List, [], ◌∷◌, IfOk, IsTrue, length};
 ghost use Rattle.ts_base.specs.Limits.{IsCellValue};
 ghost use Rattle.ts_base.specs.Spans.{none_span, span_hull};
 ghost use Rattle.ts_filter.specs.AnyRows.{
@@ -18,6 +18,7 @@ ghost use Rattle.ts_filter.specs.AnyRows.{
 };
 ghost use Rattle.ts_filter.specs.Question.{Excludes};
 ghost use Rattle.ts_glue.specs.Pairs.{Pair};
+ghost use Rattle.ts_meet.specs.Along.{AreCellValues, finish_along, hull_over};
 ghost use Rattle.ts_meet.specs.Asked.{IsAnswer};
 ghost use Rattle.ts_meet.specs.Joints.{AreJoints};
 ghost use Rattle.ts_meet.specs.Meets.{HasPlace, finish_hull};
@@ -32,7 +33,7 @@ use std::alloc::Global;
 use ts_automaton::Automaton;
 use ts_base::{Memory, Span};
 use ts_bound::{first_packed_row, next_packed_row};
-use ts_meet::{Joints, Spot, asked_at, finish_at, settled_to};
+use ts_meet::{Joints, Spot, asked_at, finish_along, finish_at, glued_along, settled_to};
 use ts_row::{Cell, PackedRow, Plan, RowView};
 use ts_sweep::packed::{LOWER, UPPER};
 
@@ -205,6 +206,21 @@ impl<'a> AnyView<'a> {
             AnyView::Wide(row) => finish_at(a, row, i, n),
         }
     }
+
+    /// The hull of the finish spans of all states at `count` places from `from` on, of a series of `n` cells.
+    pub(crate) fn finish_along(&self, a: &Automaton, from: usize, count: usize, n: u32) -> Span
+        requires width { IsFormOf a.now.wide (form_of (viewed self.now)) }
+        requires places { HavePlaces (lanes_of (viewed self.now)) (length a.now.states) (from + count)
+            (columns (viewed self.now)) }
+        ensures { result ≡ finish_along (lanes_of (viewed self.now)) a.now (columns (viewed self.now)) from count n }
+    {
+        match self {
+            AnyView::Narrow(row) => finish_along(a, row, from, count, n),
+            AnyView::Upper(row) => finish_along(a, row, from, count, n),
+            AnyView::Lower(row) => finish_along(a, row, from, count, n),
+            AnyView::Wide(row) => finish_along(a, row, from, count, n),
+        }
+    }
 }
 
 /// Whether two rows of automata with `states` states have the same form and the same hulls.
@@ -295,6 +311,43 @@ pub(crate) fn settled_between(
         ),
         (AnyView::Wide(left), AnyView::Wide(right)) => settled_to(
             asked, joints, left, right, cells, from, to,
+        ),
+        _ => unreachable!(),
+    }
+}
+
+/// The hull of the glued spans where two rows of one form meet, at the places from `from` on where these values are.
+pub(crate) fn glued_values(
+    joints: &Joints,
+    left: &AnyView<'_>,
+    right: &AnyView<'_>,
+    values: &[i64],
+    from: usize,
+    cells: u32,
+) -> Span
+    requires form { form_of (viewed right.now) ≡ form_of (viewed left.now) }
+    requires width { IsFormOf joints.now.wide (form_of (viewed left.now)) }
+    requires left { HavePlaces (lanes_of (viewed left.now)) joints.now.left_states (from + length values.now)
+        (columns (viewed left.now)) }
+    requires right { HavePlaces (lanes_of (viewed right.now)) joints.now.right_states (from + length values.now)
+        (columns (viewed right.now)) }
+    requires values { AreCellValues values.now }
+    ensures { (p : Pair) → AreJoints p joints.now → result ≡ hull_over
+        (λ i. glued_between p (viewed left.now) (viewed right.now) (from + i) (get_or values.now i (pos 0)) cells)
+        (length values.now) }
+{
+    match (left, right) {
+        (AnyView::Narrow(left), AnyView::Narrow(right)) => glued_along(
+            joints, left, right, values, from, cells,
+        ),
+        (AnyView::Upper(left), AnyView::Upper(right)) => glued_along(
+            joints, left, right, values, from, cells,
+        ),
+        (AnyView::Lower(left), AnyView::Lower(right)) => glued_along(
+            joints, left, right, values, from, cells,
+        ),
+        (AnyView::Wide(left), AnyView::Wide(right)) => glued_along(
+            joints, left, right, values, from, cells,
         ),
         _ => unreachable!(),
     }

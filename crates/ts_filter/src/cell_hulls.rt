@@ -1,19 +1,35 @@
 //! The spans at a cell, from the hulls there, as far as a question needs them.
 
-ghost use Rattle.std.specs.Prelude.{◌≡◌, ◌↔◌, ◌≤◌, ℤ, [], ◌∷◌, Contains, IsTrue, None, Some, length, slice_get};
+ghost use Rattle.std.specs.Prelude.{
+  ◌≡◌,
+  ◌↔◌,
+  ◌+◌,
+  ◌<◌,
+  ◌≤◌,
+  map,
+  ℤ,
+  [],
+  ◌∷◌,
+  Contains,
+  IsTrue,
+  None,
+  Some,
+  length,
+  slice_get,
+};
 ghost use Rattle.std.specs.Result.{result_ok};
 ghost use Rattle.ts_base.specs.Windows.{looked_at};
 ghost use Rattle.ts_bound.specs.Blocks.{last_at, split_at};
 ghost use Rattle.ts_bound.specs.Laws.{AreAutomata};
 ghost use Rattle.ts_bound.specs.Looks.{count_looked, place_in};
-ghost use Rattle.ts_bound.specs.TermSpans.{automata_of, term_span, value_span};
+ghost use Rattle.ts_bound.specs.TermSpans.{automata_of, span_of_all, term_span, value_span};
 ghost use Rattle.ts_filter.specs.Question.{AsksEach, Excludes};
 ghost use Rattle.ts_filter.specs.Ends.{best_end};
 ghost use Rattle.ts_filter.specs.declared.question.Question.TheVariants.{Ranks};
 ghost use Rattle.ts_filter.specs.Boxes.{values_at};
 ghost use Rattle.ts_filter.specs.Alike.{IsServed};
 ghost use Rattle.ts_filter.specs.AnyRows.{form_of, form_sides, viewed};
-ghost use Rattle.ts_filter.specs.CellHulls.{AreMet, HasHulls, IsAheadRow, IsBackSide, Serves};
+ghost use Rattle.ts_filter.specs.CellHulls.{AreMet, FindsAll, HasHulls, IsAheadRow, IsBackSide, Serves, places_of};
 ghost use Rattle.ts_filter.specs.SoFar.{IsSoFar, IsWholeSpan, WithParts};
 ghost use Rattle.ts_filter.specs.TermDrops.{IsFirstRefuting};
 ghost use Rattle.ts_glue.specs.Machines.{forward_of, pair_of, window_of};
@@ -21,11 +37,12 @@ ghost use Rattle.ts_meet.specs.Settled.{Between};
 
 use crate::any_row::{AnyView, asked_between, settled_between};
 use crate::excluded::best_end;
+use crate::many_values::{AT_ONCE, last_places, split_places};
 use crate::question::Question;
 use crate::so_far::SoFar;
 use crate::term_requirements::TermRequirements;
 use std::marker::Model;
-use ts_base::{Ext, Goal};
+use ts_base::{Ext, Goal, Span};
 use ts_bound::laws::machine_is_whole;
 use ts_bound::looked_count;
 use ts_domain::{Boxed, Domain};
@@ -125,22 +142,86 @@ impl<'a> CellHulls<'a> {
     }
 
     /// The span at the cell, if no number of it does what is asked; otherwise a value with which it shows that one
-    /// does. The span is the hull of the spans of the values, and the first with such a number settles the question.
+    /// does. The span is the hull of the spans of the values, and one with such a number settles the question: the
+    /// first is asked about alone, since it often does, and the others many at once.
     fn with_all<'b>(&self, asked: Question<'b>) -> Result<SoFar<'b>, i64>
         requires { Serves self.now asked }
         ensures { IsWholeSpan asked.entry (term_span self.now.machine self.now.cell self.now.cells)
             (result_ok result) }
     {
         let values = self.values();
+        let count = values.size();
         let mut known = SoFar::none(asked);
-        for i in 0..values.size() {
-            let v = values.nth(i);
-            match self.with_value(known, i, v) {
+        let mut at = 0;
+        while at < count {
+            let to = next_stop(at, count);
+            match self.with_places(known, at, to) {
                 Some(more) => known = more,
-                None => return Err(v),
+                None => return Err(self.shown_between(asked, at, to)),
             }
+            at = to;
         }
         Ok(known)
+    }
+
+    /// A span with those of the values at the places from `from` on added, before `to`; none once a number does what is
+    /// asked.
+    fn with_places<'b>(&self, so_far: SoFar<'b>, from: u64, to: u64) -> Option<SoFar<'b>>
+        requires serves { Serves self.now so_far.asked }
+        requires known { IsSoFar so_far }
+        requires order { from < to }
+        requires few { to ≤ from + 64 }
+        requires inside { to ≤ length (values_at self.now.cell self.now.cells) }
+        ensures { WithParts so_far.entry (span_of_all (map
+            (value_span self.now.machine self.now.cell self.now.cells)
+            (places_of from to (values_at self.now.cell self.now.cells))) ∷ []) result }
+    {
+        if to - from == 1 {
+            return self.with_value(so_far, from, self.values().nth(from));
+        }
+        so_far.with(self.span_at(from, to))
+    }
+
+    /// The hull of the spans of the values at the places from `from` on, before `to`.
+    fn span_at(&self, from: u64, to: u64) -> Span
+        requires order { from ≤ to }
+        requires few { to ≤ from + 64 }
+        requires inside { to ≤ length (values_at self.now.cell self.now.cells) }
+        ensures { FindsAll (Serves self.now) result (value_span self.now.machine self.now.cell self.now.cells)
+            (places_of from to (values_at self.now.cell self.now.cells)) }
+    {
+        match &self.back {
+            Some(back) => split_places(
+                self.machine,
+                &self.row,
+                back,
+                self.cells,
+                self.cell,
+                from,
+                to,
+            ),
+            None => {
+                machine_is_whole(self.machine);
+                last_places(self.machine, &self.row, self.cells, self.cell, from, to)
+            }
+        }
+    }
+
+    /// The first value at the places from `from` on, before `to`, of which some number does what is asked; the last one
+    /// there if only all together do.
+    fn shown_between(&self, asked: Question<'_>, from: u64, to: u64) -> i64
+        requires serves { Serves self.now asked }
+        requires order { from < to }
+        requires inside { to ≤ length (values_at self.now.cell self.now.cells) }
+    {
+        let values = self.values();
+        for i in from..to {
+            let v = values.nth(i);
+            if !self.excludes_at(asked, i, v) {
+                return v;
+            }
+        }
+        values.nth(to - 1)
     }
 
     /// Whether no number of the span does what is asked, on the box with the value `v` alone at the cell.
@@ -257,6 +338,22 @@ impl<'a> CellHulls<'a> {
                 last_value(so_far, self.machine, &self.row, self.cells, self.cell, i, v)
             }
         }
+    }
+}
+
+/// The place up to which values are asked about together, from a place on: the first one alone.
+fn next_stop(at: u64, count: u64) -> u64
+    requires { at < count }
+    ensures more { at < result }
+    ensures few { result ≤ at + 64 }
+    ensures inside { result ≤ count }
+{
+    if at == 0 {
+        1
+    } else if count - at <= AT_ONCE {
+        count
+    } else {
+        at + AT_ONCE
     }
 }
 

@@ -47,6 +47,7 @@ mod kept;
 mod kept_cells;
 pub mod laws;
 mod lost;
+mod many_values;
 mod meeting;
 mod others;
 mod planned;
