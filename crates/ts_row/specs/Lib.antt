@@ -1,3 +1,4 @@
 pub mod Rows
 pub mod Plans
 pub mod Takings
+pub mod ClampedLaws

@@ -16,6 +16,7 @@
 
 mod between;
 mod cell;
+mod clamped;
 mod packed_row;
 mod plan;
 mod row_steps;

@@ -1,7 +1,8 @@
 //! Which sweep takes in a move of a shape: a type for each. The parts for E and F are used in wide rows alone.
 
 ghost use Rattle.std.specs.Prelude.{◌≡◌, true, false};
-ghost use Rattle.ts_automaton.specs.declared.expr.Operator.TheVariants.{Fold};
+ghost use Rattle.ts_automaton.specs.declared.expr.Operator.TheVariants.{Fold, Sub};
+ghost use Rattle.ts_base.specs.declared.op.Op.TheVariants.{Add};
 ghost use Rattle.ts_hull.specs.Cuts.{all_whole};
 ghost use Rattle.ts_row.specs.Plans.{
   IsShapeOf,
@@ -25,6 +26,7 @@ ghost use Rattle.ts_sweep.specs.Sides.{has_wide};
 
 use crate::between::{Between, On};
 use crate::cell::Cell;
+use crate::clamped::{ClampedMinus, ClampedPlus};
 use crate::plan::{CellFold, RangeFold, Shape};
 use ts_sweep::front::{Front, High, Join, Low, One, Register, This, Zero};
 use ts_sweep::moves::{Keep, Moves, Parts};
@@ -260,8 +262,9 @@ fn ended_as<const N: usize, O: Operator, X: Front, V: Front>(
 
 /// A move that joins `R` with what a row of the width finds of `D` and a word, in a wide one less the least.
 #[inline(always)]
-fn ended_by<const N: usize, O: Operator, P: Operator, W: Front, V: Front>(
+fn ended_by<const N: usize, O: Operator, M: Operator, P: Operator, W: Front, V: Front>(
     by: O,
+    minus: M,
     fold: P,
     word: W,
     start: V,
@@ -269,6 +272,7 @@ fn ended_by<const N: usize, O: Operator, P: Operator, W: Front, V: Front>(
     t: &Between<'_, N>,
     next: &mut [PackedHull<N>],
 ) -> bool
+    requires difference { M.op minus ≡ Sub }
     requires covered { IsCovered N t.now }
     requires next_packed { IsColumn N (count_in t.now.next_values) next.old }
     ensures packed { IsColumn N (count_in t.now.next_values) next.new }
@@ -283,7 +287,7 @@ fn ended_by<const N: usize, O: Operator, P: Operator, W: Front, V: Front>(
     };
     if PackedHull::<N>::is_wide() {
         let less = Join {
-            by: Minus,
+            by: minus,
             left: whole,
             right: least(Register::<3>),
         };
@@ -450,9 +454,39 @@ fn inside<const N: usize>(
     }
 }
 
-/// Takes in a move of the shape `Ended`, with any operator for the ranges.
+/// Takes in a move of the shape `Ended`, with any operator for the ranges, by a sum and a difference.
 #[inline(always)]
-fn ended_from<const N: usize, P: Operator, W: Front, V: Front>(
+fn ended_from<const N: usize, S: Operator, M: Operator, P: Operator, W: Front, V: Front>(
+    g: RangeFold,
+    plus: S,
+    minus: M,
+    fold: P,
+    word: W,
+    start: V,
+    on: On,
+    t: &Between<'_, N>,
+    next: &mut [PackedHull<N>],
+) -> bool
+    requires sum { S.op plus ≡ Fold Add }
+    requires difference { M.op minus ≡ Sub }
+    requires covered { IsCovered N t.now }
+    requires next_packed { IsColumn N (count_in t.now.next_values) next.old }
+    ensures packed { IsColumn N (count_in t.now.next_values) next.new }
+    ensures taken { result ≡ true → MovesAs N t.now on (ended_fronts (Fold (range_op g))
+        (found_of (has_wide N) (P.op fold) (W.formula word)) (V.formula start)) next.old next.new }
+    ensures kept { result ≡ false → next.new ≡ next.old }
+{
+    match g {
+        RangeFold::Sum => ended_by(plus, minus, fold, word, start, on, t, next),
+        RangeFold::Highest => ended_by(Greater, minus, fold, word, start, on, t, next),
+        RangeFold::Lowest => ended_by(Lesser, minus, fold, word, start, on, t, next),
+    }
+}
+
+/// Takes in a move of the shape `Ended` where the cells begin with an infinity, which no plain sum takes: where one may
+/// still be in `D`, sums are clamped.
+#[inline(always)]
+fn ended_open<const N: usize, P: Operator, W: Front, V: Front>(
     g: RangeFold,
     fold: P,
     word: W,
@@ -468,11 +502,10 @@ fn ended_from<const N: usize, P: Operator, W: Front, V: Front>(
         (found_of (has_wide N) (P.op fold) (W.formula word)) (V.formula start)) next.old next.new }
     ensures kept { result ≡ false → next.new ≡ next.old }
 {
-    match g {
-        RangeFold::Sum => ended_by(Plus, fold, word, start, on, t, next),
-        RangeFold::Highest => ended_by(Greater, fold, word, start, on, t, next),
-        RangeFold::Lowest => ended_by(Lesser, fold, word, start, on, t, next),
+    if ended_from(g, Plus, Minus, fold, word, start, on, t, next) {
+        return true;
     }
+    ended_from(g, ClampedPlus, ClampedMinus, fold, word, start, on, t, next)
 }
 
 /// Takes in a move of the shape `Ended`.
@@ -492,11 +525,11 @@ fn ended<const N: usize>(
     ensures kept { result ≡ false → next.new ≡ next.old }
 {
     match f {
-        CellFold::Ones => ended_from(g, Greater, One, One, on, t, next),
-        CellFold::Width => ended_from(g, Plus, One, Zero, on, t, next),
-        CellFold::Surf => ended_from(g, Plus, This, Zero, on, t, next),
-        CellFold::Greatest => ended_from(g, Greater, This, Low, on, t, next),
-        CellFold::Least => ended_from(g, Lesser, This, High, on, t, next),
+        CellFold::Ones => ended_from(g, Plus, Minus, Greater, One, One, on, t, next),
+        CellFold::Width => ended_from(g, Plus, Minus, Plus, One, Zero, on, t, next),
+        CellFold::Surf => ended_from(g, Plus, Minus, Plus, This, Zero, on, t, next),
+        CellFold::Greatest => ended_open(g, Greater, This, Low, on, t, next),
+        CellFold::Least => ended_open(g, Lesser, This, High, on, t, next),
     }
 }
 
