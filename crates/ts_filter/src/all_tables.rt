@@ -110,6 +110,16 @@ impl<'a> AllTables<'a> {
         )
     }
 
+    /// How many questions were put to the tables of all terms, each about one cell. No answer depends on it: it is for
+    /// tests and for measuring, which see by it what was spared.
+    pub fn asked(&self) -> u64 {
+        let mut count: u64 = 0;
+        for tables in &self.each {
+            count = count.wrapping_add(tables.questions());
+        }
+        count
+    }
+
     /// Whether the machine of the term can't be split.
     pub fn is_plain(&self, term: u32) -> bool
         requires { term < length self.now.machines }

@@ -46,7 +46,7 @@ use ts_model::Require;
 /// backward ones from the last one back; those that are kept; and requirements by which no drop was found at a cell
 /// that is looked at, nor is any there before one of these cells changes. At each cell that was asked about, the value
 /// that showed last that some number does what is asked is `likely` to show it again. The rows have the one end of each
-/// register that is enough for what was asked, once anything was `asked`, or both ends.
+/// register that is enough for what was asked, once anything was `asked`, or both ends. `questions` counts for tests.
 #[derive(Drop)]
 pub(crate) struct BoxTables<'a> {
     machine: HeldMachine<'a>,
@@ -56,6 +56,7 @@ pub(crate) struct BoxTables<'a> {
     joints: Option<Joints>,
     quiet: Vec<Require>,
     likely: Vec<i64>,
+    questions: u64,
 }
 
 impl<'a> Model for BoxTables<'a> {
@@ -103,6 +104,7 @@ impl<'a> BoxTables<'a> {
             joints,
             quiet: Vec::new(alloc),
             likely: Vec::new(alloc),
+            questions: 0,
         }
     }
 
@@ -225,6 +227,11 @@ impl<'a> BoxTables<'a> {
         Ok(())
     }
 
+    /// How many questions were put to these tables, each about one cell; after 2^64 it starts again at 0.
+    pub(crate) fn questions(&self) -> u64 {
+        self.questions
+    }
+
     /// Whether the machine can't be split.
     pub(crate) fn is_plain(&self) -> bool
         ensures { IsTrue result ↔ (self.now.machine.pair ≡ None) }
@@ -281,7 +288,7 @@ impl<'a> BoxTables<'a> {
     }
 
     /// Sees to it that the rows have the ends that are enough for the question: rows that lack one are thrown away. The
-    /// first question decides; once another end is asked for, rows have both.
+    /// first question decides; once another end is asked for, rows have both. The question is counted.
     fn serve(&mut self, alloc: Global, asked: Question<'_>, cells: &Boxed)
         requires looks { LooksIn self.old.machine cells.now.present }
         requires known { AreKnown cells.now.present self.old }
@@ -291,6 +298,7 @@ impl<'a> BoxTables<'a> {
     {
         let form = self.form_for(asked, cells);
         self.asked = true;
+        self.questions = self.questions.wrapping_add(1);
         if form != self.ahead.form() {
             self.turn(alloc, form);
         }

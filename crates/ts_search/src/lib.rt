@@ -35,4 +35,4 @@ mod tree;
 mod witnesses;
 
 pub use best::solve;
-pub use listing::list;
+pub use listing::{asked_by_list, list};

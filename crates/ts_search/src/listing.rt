@@ -61,20 +61,77 @@ pub fn list(
     ensures { IfOk result
         (λ c. IsListAnswer (model_parts m.now) (spans_in (model_parts m.now)) count budget (cert_seen c)) }
 {
-    let problem = Problem { model: m };
     let mut tables = tables_of(alloc, m, p)?;
-    let mut witnesses = Witnesses::new(alloc, &problem, p.machines())?;
+    list_by(alloc, m, p, &mut tables, true, count, budget)
+}
+
+/// How many questions a listing asks of tables, each about one cell: as it is, or without a witness. The certificate is
+/// the same. It is for tests and for measuring: answers alone don't tell whether witnesses are used.
+pub fn asked_by_list(
+    alloc: Global,
+    m: &Model,
+    p: &Program,
+    count: u32,
+    budget: u64,
+    witnessed: bool,
+) -> Result<u64, Memory>
+    requires program { IsProgramOf p.now m.now }
+    requires whole { IsWhole (model_parts m.now) }
+    requires limits { KeepsLimits NeedsList (model_parts m.now) }
+{
+    let mut tables = tables_of(alloc, m, p)?;
+    list_by(alloc, m, p, &mut tables, witnessed, count, budget)?;
+    Ok(tables.asked())
+}
+
+/// The certificate of a listing by these tables, with witnesses or without.
+fn list_by(
+    alloc: Global,
+    m: &Model,
+    p: &Program,
+    tables: &mut AllTables<'_>,
+    witnessed: bool,
+    count: u32,
+    budget: u64,
+) -> Result<Certificate, Memory>
+    requires program { IsProgramOf p.now m.now }
+    requires whole { IsWhole (model_parts m.now) }
+    requires limits { KeepsLimits NeedsList (model_parts m.now) }
+    requires tables { tables.old.machines ≡ automata_in (model_parts m.now) }
+    ensures { IfOk result
+        (λ c. IsListAnswer (model_parts m.now) (spans_in (model_parts m.now)) count budget (cert_seen c)) }
+{
+    let problem = Problem { model: m };
+    let mut witnesses = witnesses_of(alloc, &problem, p.machines(), witnessed)?;
     let leaps = may_leap(&problem, p.machines());
     let tree = list_grow(
         alloc,
         &problem,
-        &mut tables,
+        tables,
         &mut witnesses,
         count,
         budget,
         leaps,
     )?;
     certificate(count, tree)
+}
+
+/// A witness of each requirement, or none at all.
+fn witnesses_of<'a>(
+    alloc: Global,
+    problem: &Problem<'a>,
+    machines: &'a [Machine],
+    witnessed: bool,
+) -> Result<Witnesses<'a>, Memory>
+    requires posed { IsPosed problem.now }
+    requires machines { map automata_of machines.now ≡ automata_in (model_parts problem.now.model.now) }
+    ensures { IfOk result (λ w. AreHeld problem.now w) }
+{
+    if witnessed {
+        Witnesses::new(alloc, problem, machines)
+    } else {
+        Witnesses::none(alloc, problem)
+    }
 }
 
 /// Whether leaps may be made. None is made without a requirement: then a line asks nothing that a leap might spare.

@@ -52,6 +52,16 @@ impl<'a> Witnesses<'a> {
         Ok(Witnesses { each, kept, ends })
     }
 
+    /// No witness of any requirement: all questions are asked.
+    pub(crate) fn none(alloc: Global, problem: &Problem<'a>) -> Result<Witnesses<'a>, Memory>
+        ensures { IfOk result (λ w. AreHeld problem.now w) }
+    {
+        let kept = unmarked(alloc, problem)?;
+        let ends = room_for_ends(alloc, problem)?;
+        let each = Vec::new(alloc);
+        Ok(Witnesses { each, kept, ends })
+    }
+
     /// Brings all of them into the box. Nothing is allocated.
     pub(crate) fn bring(&mut self, problem: &Problem<'_>, cells: &Boxed)
         requires posed { IsPosed problem.now }

@@ -10,17 +10,17 @@ use Rattle.ts_search.specs.Turns.{list_certificate}
 use Rattle.ts_search.specs.Views.{list_state_of}
 use Rattle.ts_search.proofs.Certified.{listed}
 use Rattle.ts_search.proofs.OfProgram.{are_right, posed_list}
-use Rattle.ts_search.proofs.listing.list.Goals as goal
+use Rattle.ts_search.proofs.listing.list_by.Goals as goal
 
 pub list_grow-requires-clause-posed : goal.list_grow-requires-clause-posed
 list_grow-requires-clause-posed c = posed_list c.args.m.now c.requires.whole c.requires.limits _ refl
 
-pub new-requires-clause-posed : goal.new-requires-clause-posed
-new-requires-clause-posed c = posed_list c.args.m.now c.requires.whole c.requires.limits _ refl
+pub witnesses_of-requires-clause-posed : goal.witnesses_of-requires-clause-posed
+witnesses_of-requires-clause-posed c = posed_list c.args.m.now c.requires.whole c.requires.limits _ refl
 
 -- the machines of the program are those of the model's terms
-pub new-requires-clause-machines : goal.new-requires-clause-machines
-new-requires-clause-machines c = ap (map automata_of) c.machines.ensures ∙ machines_are c.args.p.now c.args.m.now c.requires.program
+pub witnesses_of-requires-clause-machines : goal.witnesses_of-requires-clause-machines
+witnesses_of-requires-clause-machines c = ap (map automata_of) c.machines.ensures ∙ machines_are c.args.p.now c.args.m.now c.requires.program
 
 pub returns : goal.returns
 returns c =
