@@ -8,7 +8,7 @@ use Rattle.ts_hull.specs.Cuts.{cut_of, is_front_move}
 use Rattle.ts_hull.specs.Splits.{FrontOf}
 use Rattle.ts_hull.proofs.Wholes.{same_cut, whole_split}
 use Rattle.ts_row.specs.declared.plan.Shape.{Shape}
-use Rattle.ts_row.specs.declared.plan.Shape.TheVariants.{Kept, Longer, Begun, Found, Inside, Ended, Anew, Other}
+use Rattle.ts_row.specs.declared.plan.Shape.TheVariants.{Kept, Longer, Begun, Found, Inside, Ended, Anew, FoundTwice, EndedTwice, Other}
 use Rattle.ts_row.specs.Plans.{IsShapeOf, beside_held, beside_open, fronts, narrow_fronts, wide_result}
 use Rattle.ts_sweep.specs.Moves.{of_width}
 use Rattle.ts_sweep.proofs.Widths.{width_cut}
@@ -44,4 +44,6 @@ wide_is (Found g) c e d f r x h p q u = same_cut (ap (λ z. z.c) h) (ap FrontOf 
 wide_is (Inside g) c e d f r x h p q u = same_cut (ap (λ z. z.c) h) (ap FrontOf p) (ap (λ z. z.d) h) (ap FrontOf q) (ap FrontOf u)
 wide_is (Ended g k) c e d f r x h p q u = same_cut (ap (λ z. z.c) h) (ap FrontOf p) (ap (λ z. z.d) h) (ap FrontOf q) (ap FrontOf u)
 wide_is (Anew g k) c e d f r x h p q u = same_cut (ap (λ z. z.c) h) (ap FrontOf p) (ap (λ z. z.d) h) (ap FrontOf q) (ap FrontOf u)
+wide_is (FoundTwice g) c e d f r x h p q u = same_cut (ap (λ z. z.c) h) (ap FrontOf p) (ap (λ z. z.d) h) (ap FrontOf q) (ap FrontOf u)
+wide_is (EndedTwice g k) c e d f r x h p q u = same_cut (ap (λ z. z.c) h) (ap FrontOf p) (ap (λ z. z.d) h) (ap FrontOf q) (ap FrontOf u)
 wide_is Other c e d f r x h p q u = tt

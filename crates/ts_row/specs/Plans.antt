@@ -20,7 +20,7 @@ use Rattle.ts_row.specs.declared.plan.CellFold.TheVariants.{Ones, Width, Surf, G
 use Rattle.ts_row.specs.declared.plan.RangeFold.{RangeFold}
 use Rattle.ts_row.specs.declared.plan.RangeFold.TheVariants.{Sum, Highest, Lowest}
 use Rattle.ts_row.specs.declared.plan.Shape.{Shape}
-use Rattle.ts_row.specs.declared.plan.Shape.TheVariants.{Kept, Longer, Begun, Found, Inside, Ended, Anew, Other}
+use Rattle.ts_row.specs.declared.plan.Shape.TheVariants.{Kept, Longer, Begun, Found, Inside, Ended, Anew, FoundTwice, EndedTwice, Other}
 use Rattle.ts_row.specs.declared.plan.Equals.TheVariants.{Alone, WithLess, WithGreater}
 use Rattle.ts_row.specs.declared.plan.StatePlan.{StatePlan}
 use Rattle.ts_row.specs.declared.plan.Plan.{Plan}
@@ -52,6 +52,13 @@ cell_start Width = Leaf Zero
 cell_start Surf = Leaf Zero
 cell_start Greatest = Leaf LowAtom
 cell_start Least = Leaf HighAtom
+
+-- D, joined with the worth of two cells
+abbrev pub twice_by : Operator → Formula → Formula
+twice_by o w = Join o (Join o (Leaf D) w) w
+
+abbrev pub twice : CellFold → Formula
+twice f = twice_by (Fold (cell_op f)) (cell_word f)
 
 -- the same of a fold of ranges
 abbrev pub range_op : RangeFold → Op
@@ -100,6 +107,14 @@ ended_fronts o found d = fronts (Leaf C) (Leaf E) d (Leaf HighAtom) (Join o (Lea
 abbrev pub anew_fronts : Operator → Formula → Formula → Formula → Cut
 anew_fronts o c held d = fronts c (Leaf Zero) d (Leaf HighAtom) (Join o (Leaf R) held)
 
+-- C becomes of D and the worth of two cells, and D begins anew; R becomes of R and what D and that give, and D begins
+-- anew
+abbrev pub found_twice_fronts : Operator → Formula → Formula → Cut
+found_twice_fronts o w d = narrow_fronts (twice_by o w) d (Leaf R)
+
+abbrev pub ended_twice_fronts : Operator → Operator → Formula → Formula → Cut
+ended_twice_fronts g o w d = narrow_fronts (Leaf C) d (Join g (Leaf R) (twice_by o w))
+
 -- what is held: in a wide automaton C less E
 abbrev pub held_of : Bool → Formula
 held_of wide = if wide then Join Sub (Leaf C) (Leaf E) else Leaf C
@@ -120,6 +135,10 @@ IsShapeOf wide (Ended g f) k =
     (ended_fronts (Fold (range_op g)) (found_of wide (Fold (cell_op f)) (cell_word f)) (cell_start f))
 IsShapeOf wide (Anew g f) k =
     k ≡ of_width wide (anew_fronts (Fold (range_op g)) (range_start g) (held_of wide) (cell_start f))
+IsShapeOf wide (FoundTwice f) k =
+    k ≡ of_width wide (found_twice_fronts (Fold (cell_op f)) (cell_word f) (cell_start f))
+IsShapeOf wide (EndedTwice g f) k =
+    k ≡ of_width wide (ended_twice_fronts (Fold (range_op g)) (Fold (cell_op f)) (cell_word f) (cell_start f))
 IsShapeOf wide Other k = Unit {0}
 
 -- what it says of E, F and R of a wide automaton
@@ -131,6 +150,8 @@ beside_held (Found f) = least (Leaf F)
 beside_held (Inside f) = Join (Fold Min) (Leaf E) (least (Leaf F))
 beside_held (Ended g f) = Leaf E
 beside_held (Anew g f) = Leaf Zero
+beside_held (FoundTwice f) = Leaf Zero
+beside_held (EndedTwice g f) = Leaf Zero
 beside_held Other = Leaf Zero
 
 abbrev pub beside_open : Shape → Formula
@@ -141,6 +162,8 @@ beside_open (Found f) = Leaf HighAtom
 beside_open (Inside f) = Leaf HighAtom
 beside_open (Ended g f) = Leaf HighAtom
 beside_open (Anew g f) = Leaf HighAtom
+beside_open (FoundTwice f) = Leaf Zero
+beside_open (EndedTwice g f) = Leaf Zero
 beside_open Other = Leaf Zero
 
 -- what R takes in, in a wide automaton: what was found, or what is held
@@ -152,6 +175,8 @@ taken_in (Found f) = held_of true
 taken_in (Inside f) = held_of true
 taken_in (Ended g f) = found_of true (Fold (cell_op f)) (cell_word f)
 taken_in (Anew g f) = held_of true
+taken_in (FoundTwice f) = held_of true
+taken_in (EndedTwice g f) = twice f
 taken_in Other = held_of true
 
 abbrev pub wide_result : Shape → Formula
@@ -162,6 +187,8 @@ wide_result (Found f) = Leaf R
 wide_result (Inside f) = Leaf R
 wide_result (Ended g f) = Join (Fold (range_op g)) (Leaf R) (taken_in (Ended g f))
 wide_result (Anew g f) = Join (Fold (range_op g)) (Leaf R) (taken_in (Anew g f))
+wide_result (FoundTwice f) = Leaf R
+wide_result (EndedTwice g f) = Join (Fold (range_op g)) (Leaf R) (taken_in (EndedTwice g f))
 wide_result Other = Leaf R
 
 -- what is planned of a state: the shape of each move, and that the move on `=` is the same as another only if it is

@@ -29,6 +29,7 @@ ghost use Rattle.ts_row.specs.Plans.{
   range_op,
   range_start,
   taken_in,
+  twice,
   wide_result,
   words_formula,
 };
@@ -58,7 +59,8 @@ pub(crate) enum RangeFold {
 
 /// What a move makes of the registers: `Kept` changes nothing; in `Longer` D takes in the cell; in `Begun` D is reset;
 /// in `Found` C is made of D and the cell, in `Inside` of C, D and the cell, and D is reset; in `Ended` R takes in D
-/// and the cell, and D is reset; in `Anew` R takes in C, and C and D are reset; `Other` is anything else.
+/// and the cell, and D is reset; in `Anew` R takes in C, and C and D are reset; `FoundTwice` and `EndedTwice` are
+/// `Found` and `Ended` with the worth of two cells; `Other` is anything else.
 #[derive(Clone, Copy)]
 pub(crate) enum Shape {
     Kept,
@@ -68,6 +70,8 @@ pub(crate) enum Shape {
     Inside(CellFold),
     Ended(RangeFold, CellFold),
     Anew(RangeFold, CellFold),
+    FoundTwice(CellFold),
+    EndedTwice(RangeFold, CellFold),
     Other,
 }
 
@@ -253,12 +257,99 @@ fn shape_of(c: Words, d: Words, r: Words) -> Option<Shape>
     }
 }
 
+/// The fold of cells by which an operator over two expressions joins D with the worth of two cells.
+fn twice_by(o: Op, a: &Expr, b: &Expr) -> Option<CellFold>
+    ensures { IfSome result (λ f. Join (Fold o) (formula a.now) (formula b.now) ≡ twice f) }
+{
+    let word = word_of(b)?;
+    let f = fold_of(o, word)?;
+    if is_two(a, o, Atom::D, word) {
+        Some(f)
+    } else {
+        None
+    }
+}
+
+/// The fold of cells by which an expression joins D with the worth of two cells.
+fn twice_of(e: &Expr) -> Option<CellFold>
+    ensures { IfSome result (λ f. formula e.now ≡ twice f) }
+{
+    match e {
+        Expr::Add(a, b) => twice_by(Op::Add, a, b),
+        Expr::Max(a, b) => twice_by(Op::Max, a, b),
+        Expr::Min(a, b) => twice_by(Op::Min, a, b),
+        _ => None,
+    }
+}
+
+/// The shape of a move that keeps C and joins R with D and the worth of two cells.
+fn ended_twice(o: Op, taken: &Expr, d: &Expr) -> Option<Shape>
+    ensures { IfSome result (λ s. IsShapeOf false s
+        (narrow_fronts (Leaf C) (formula d.now) (Join (Fold o) (Leaf R) (formula taken.now)))) }
+{
+    let f = twice_of(taken)?;
+    if is_word(d, start_of(f)) {
+        Some(Shape::EndedTwice(range_by(o), f))
+    } else {
+        None
+    }
+}
+
+/// The shape of a move that keeps C and joins R with D and the worth of two cells, by its expressions of D and R.
+fn ended_twice_of(d: &Expr, r: &Expr) -> Option<Shape>
+    ensures { IfSome result (λ s. IsShapeOf false s (narrow_fronts (Leaf C) (formula d.now) (formula r.now))) }
+{
+    match r {
+        Expr::Add(a, b) if is_word(a, Atom::R) => ended_twice(Op::Add, b, d),
+        Expr::Max(a, b) if is_word(a, Atom::R) => ended_twice(Op::Max, b, d),
+        Expr::Min(a, b) if is_word(a, Atom::R) => ended_twice(Op::Min, b, d),
+        _ => None,
+    }
+}
+
+/// The shape of a move that makes C of D and the worth of two cells.
+fn found_twice(c: &Expr, d: &Expr) -> Option<Shape>
+    ensures { IfSome result (λ s. IsShapeOf false s (narrow_fronts (formula c.now) (formula d.now) (Leaf R))) }
+{
+    let f = twice_of(c)?;
+    if is_word(d, start_of(f)) {
+        Some(Shape::FoundTwice(f))
+    } else {
+        None
+    }
+}
+
+/// The shape of a move that takes in the worth of two cells, of a narrow automaton.
+fn twice_shape(t: &Turn) -> Option<Shape>
+    ensures { IfSome result (λ s. IsShapeOf false s
+        (narrow_fronts (formula t.now.c) (formula t.now.d) (formula t.now.r))) }
+{
+    if is_word(&t.r, Atom::R) {
+        found_twice(&t.c, &t.d)
+    } else if is_word(&t.c, Atom::C) {
+        ended_twice_of(&t.d, &t.r)
+    } else {
+        None
+    }
+}
+
 /// The shape of a move of few words, of a narrow automaton.
-fn narrow_shape(t: &Turn) -> Option<Shape>
+fn short_shape(t: &Turn) -> Option<Shape>
     ensures { IfSome result (λ s. IsShapeOf false s
         (narrow_fronts (formula t.now.c) (formula t.now.d) (formula t.now.r))) }
 {
     shape_of(words_of(&t.c)?, words_of(&t.d)?, words_of(&t.r)?)
+}
+
+/// The shape of a move of a narrow automaton.
+fn narrow_shape(t: &Turn) -> Option<Shape>
+    ensures { IfSome result (λ s. IsShapeOf false s
+        (narrow_fronts (formula t.now.c) (formula t.now.d) (formula t.now.r))) }
+{
+    match short_shape(t) {
+        Some(s) => Some(s),
+        None => twice_shape(t),
+    }
 }
 
 /// The expressions of E and F in a move of a shape.
@@ -278,7 +369,9 @@ fn beside(s: Shape) -> (Words, Words)
         ),
         Shape::Ended(_, _) => (Words::Word(Atom::E), Words::Word(Atom::PosInf)),
         Shape::Anew(_, _) => (Words::Word(Atom::Zero), Words::Word(Atom::PosInf)),
-        Shape::Other => (Words::Word(Atom::Zero), Words::Word(Atom::Zero)),
+        Shape::FoundTwice(_) | Shape::EndedTwice(_, _) | Shape::Other => {
+            (Words::Word(Atom::Zero), Words::Word(Atom::Zero))
+        }
     }
 }
 
@@ -360,12 +453,31 @@ fn is_found(f: CellFold, e: &Expr) -> bool
     }
 }
 
+/// Whether an expression joins D with the worth of two cells by a fold.
+fn is_twice(f: CellFold, e: &Expr) -> bool
+    ensures { result ≡ true → formula e.now ≡ twice f }
+{
+    match (op_of(f), e) {
+        (Op::Add, Expr::Add(a, b)) => {
+            is_two(a, Op::Add, Atom::D, worth_of(f)) && is_word(b, worth_of(f))
+        }
+        (Op::Max, Expr::Max(a, b)) => {
+            is_two(a, Op::Max, Atom::D, worth_of(f)) && is_word(b, worth_of(f))
+        }
+        (Op::Min, Expr::Min(a, b)) => {
+            is_two(a, Op::Min, Atom::D, worth_of(f)) && is_word(b, worth_of(f))
+        }
+        _ => false,
+    }
+}
+
 /// Whether an expression is what R takes in by a move of a shape, in a wide automaton.
 fn is_taken_in(s: Shape, e: &Expr) -> bool
     ensures { result ≡ true → formula e.now ≡ taken_in s }
 {
     match s {
         Shape::Ended(_, f) => is_found(f, e),
+        Shape::EndedTwice(_, f) => is_twice(f, e),
         _ => is_held(e),
     }
 }
@@ -389,6 +501,7 @@ fn is_wide_result(s: Shape, e: &Expr) -> bool
     match s {
         Shape::Ended(g, _) => is_joined(g, s, e),
         Shape::Anew(g, _) => is_joined(g, s, e),
+        Shape::EndedTwice(g, _) => is_joined(g, s, e),
         _ => is_word(e, Atom::R),
     }
 }

@@ -12,8 +12,10 @@ ghost use Rattle.ts_row.specs.Plans.{
   cell_start,
   cell_word,
   ended_fronts,
+  ended_twice_fronts,
   found_fronts,
   found_of,
+  found_twice_fronts,
   held_of,
   inside_fronts,
   longer_fronts,
@@ -360,6 +362,92 @@ fn anew_by<const N: usize, O: Operator, U: Front, V: Front>(
     }
 }
 
+/// A move that makes `C` of `D` and the worth of two cells, and resets `D`.
+#[inline(never)]
+fn found_twice_as<const N: usize, O: Operator, W: Front, V: Front>(
+    by: O,
+    word: W,
+    start: V,
+    on: On,
+    t: &Between<'_, N>,
+    next: &mut [PackedHull<N>],
+) -> bool
+    requires covered { IsCovered N t.now }
+    requires next_packed { IsColumn N (count_in t.now.next_values) next.old }
+    ensures packed { IsColumn N (count_in t.now.next_values) next.new }
+    ensures taken { result ≡ true → MovesAs N t.now on
+        (found_twice_fronts (O.op by) (W.formula word) (V.formula start)) next.old next.new }
+    ensures kept { result ≡ false → next.new ≡ next.old }
+{
+    let once = Join {
+        by,
+        left: Register::<2>,
+        right: word,
+    };
+    let parts = Parts {
+        c: Whole {
+            front: Join {
+                by,
+                left: once,
+                right: word,
+            },
+        },
+        e: Whole { front: Zero },
+        d: Whole { front: start },
+        f: Whole { front: Zero },
+        r: Whole {
+            front: Register::<4>,
+        },
+    };
+    sweep_as(parts, on, t, next)
+}
+
+/// A move that joins `R` with `D` and the worth of two cells, and resets `D`.
+#[inline(never)]
+fn ended_twice_as<const N: usize, O: Operator, P: Operator, W: Front, V: Front>(
+    by: O,
+    fold: P,
+    word: W,
+    start: V,
+    on: On,
+    t: &Between<'_, N>,
+    next: &mut [PackedHull<N>],
+) -> bool
+    requires covered { IsCovered N t.now }
+    requires next_packed { IsColumn N (count_in t.now.next_values) next.old }
+    ensures packed { IsColumn N (count_in t.now.next_values) next.new }
+    ensures taken { result ≡ true → MovesAs N t.now on
+        (ended_twice_fronts (O.op by) (P.op fold) (W.formula word) (V.formula start)) next.old next.new }
+    ensures kept { result ≡ false → next.new ≡ next.old }
+{
+    let once = Join {
+        by: fold,
+        left: Register::<2>,
+        right: word,
+    };
+    let twice = Join {
+        by: fold,
+        left: once,
+        right: word,
+    };
+    let parts = Parts {
+        c: Whole {
+            front: Register::<0>,
+        },
+        e: Whole { front: Zero },
+        d: Whole { front: start },
+        f: Whole { front: Zero },
+        r: Whole {
+            front: Join {
+                by,
+                left: Register::<4>,
+                right: twice,
+            },
+        },
+    };
+    sweep_as(parts, on, t, next)
+}
+
 /// Takes in a move of the shape `Longer`.
 #[inline(always)]
 fn longer<const N: usize>(
@@ -580,6 +668,76 @@ fn anew<const N: usize>(
     }
 }
 
+/// Takes in a move of the shape `FoundTwice`. In machines that have such moves cells are counted.
+#[inline(always)]
+fn found_twice<const N: usize>(
+    f: CellFold,
+    on: On,
+    t: &Between<'_, N>,
+    next: &mut [PackedHull<N>],
+) -> bool
+    requires covered { IsCovered N t.now }
+    requires next_packed { IsColumn N (count_in t.now.next_values) next.old }
+    ensures packed { IsColumn N (count_in t.now.next_values) next.new }
+    ensures taken { result ≡ true → MovesAs N t.now on
+        (found_twice_fronts (Fold (cell_op f)) (cell_word f) (cell_start f)) next.old next.new }
+    ensures kept { result ≡ false → next.new ≡ next.old }
+{
+    match f {
+        CellFold::Ones => found_twice_as(Greater, One, One, on, t, next),
+        CellFold::Width => found_twice_as(Plus, One, Zero, on, t, next),
+        _ => false,
+    }
+}
+
+/// Takes in a move of the shape `EndedTwice`, with any operator for the ranges.
+#[inline(always)]
+fn ended_twice_from<const N: usize, P: Operator, W: Front, V: Front>(
+    g: RangeFold,
+    fold: P,
+    word: W,
+    start: V,
+    on: On,
+    t: &Between<'_, N>,
+    next: &mut [PackedHull<N>],
+) -> bool
+    requires covered { IsCovered N t.now }
+    requires next_packed { IsColumn N (count_in t.now.next_values) next.old }
+    ensures packed { IsColumn N (count_in t.now.next_values) next.new }
+    ensures taken { result ≡ true → MovesAs N t.now on
+        (ended_twice_fronts (Fold (range_op g)) (P.op fold) (W.formula word) (V.formula start)) next.old next.new }
+    ensures kept { result ≡ false → next.new ≡ next.old }
+{
+    match g {
+        RangeFold::Sum => ended_twice_as(Plus, fold, word, start, on, t, next),
+        RangeFold::Highest => ended_twice_as(Greater, fold, word, start, on, t, next),
+        RangeFold::Lowest => ended_twice_as(Lesser, fold, word, start, on, t, next),
+    }
+}
+
+/// Takes in a move of the shape `EndedTwice`. In machines that have such moves cells are counted.
+#[inline(always)]
+fn ended_twice<const N: usize>(
+    g: RangeFold,
+    f: CellFold,
+    on: On,
+    t: &Between<'_, N>,
+    next: &mut [PackedHull<N>],
+) -> bool
+    requires covered { IsCovered N t.now }
+    requires next_packed { IsColumn N (count_in t.now.next_values) next.old }
+    ensures packed { IsColumn N (count_in t.now.next_values) next.new }
+    ensures taken { result ≡ true → MovesAs N t.now on
+        (ended_twice_fronts (Fold (range_op g)) (Fold (cell_op f)) (cell_word f) (cell_start f)) next.old next.new }
+    ensures kept { result ≡ false → next.new ≡ next.old }
+{
+    match f {
+        CellFold::Ones => ended_twice_from(g, Greater, One, One, on, t, next),
+        CellFold::Width => ended_twice_from(g, Plus, One, Zero, on, t, next),
+        _ => false,
+    }
+}
+
 /// Takes in a move by the sweep of its shape, if its sums stay small.
 pub(crate) fn take_shape<const N: usize>(
     shape: Shape,
@@ -601,6 +759,8 @@ pub(crate) fn take_shape<const N: usize>(
         Shape::Inside(f) => inside(f, on, t, next),
         Shape::Ended(g, f) => ended(g, f, on, t, next),
         Shape::Anew(g, f) => anew(g, f, on, t, next),
+        Shape::FoundTwice(f) => found_twice(f, on, t, next),
+        Shape::EndedTwice(g, f) => ended_twice(g, f, on, t, next),
         Shape::Other => false,
     }
 }
