@@ -1,21 +1,30 @@
 -- What is known of drops stays right after each mark, and what is known of all terms is known of each machine.
-use Rattle.std.proofs.Common.{◌≡◌, ◌⊎◌, ℕ, zero, suc, ◌+◌, ◌-◌, ◌<◌, ◌≤◌, Bool, true, false, List, [], ◌∷◌, length, map, replicate, set, get_or}
+use Rattle.std.proofs.Common.{◌≡◌, ◌⊎◌, ℕ, zero, suc, ◌+◌, ◌-◌, ◌<◌, ◌≤◌, ℤ, ◌<ℤ◌, ◌≤ℤ◌, Bool, true, false, List, [], ◌∷◌, length, map, drop, pos, replicate, set, get_or}
 use Rattle.std.proofs.Common.{Option, Some, None, unwrap_or, slice_get, refl, sym, ◌∙◌, ap, subst, inl, inr, ⊎_elim, arith}
+use Rattle.std.proofs.lemmas.Int.{ints}
 use Rattle.std.proofs.lemmas.List.{length-map, length-replicate, length-set}
 use Rattle.std.proofs.lemmas.Option.{none-some, same_Some, slice_get-get_or}
+use Rattle.std.specs.Prelude.{Contains}
 use Rattle.std.specs.List.{AllByRecursion}
-use Rattle.ts_bound.specs.TermSpans.{Automata, LooksIn}
+use Rattle.ts_base.specs.Limits.{IsCellValue, greatest_value}
+use Rattle.ts_domain.specs.BoxSeries.{IsBox}
+use Rattle.ts_domain.specs.Values.{IsRising, WithinLimits}
+use Rattle.ts_domain.proofs.MarkedSets.{at_contains}
+use Rattle.ts_domain.proofs.Sets.{each_contains}
+use Rattle.ts_bound.specs.TermSpans.{Automata, LooksIn, value_span, IsUsable as IsUsableOf}
 use Rattle.ts_model.specs.declared.model.Require.{Require}
 use Rattle.ts_filter.specs.declared.drops.Removal.{Removal}
 use Rattle.ts_filter.specs.declared.term_requirements.TermRequirements.{TermRequirements}
-use Rattle.ts_filter.specs.Boxes.{Box}
-use Rattle.ts_filter.specs.KeptCells.{AreKept, AreSized, IsAliveTerm, IsKeptIfKnown, IsSpared, IsTermKept, TermKept, forgotten, is_alive_in, is_spared_in, unknown, with_alive, with_known, with_spared}
+use Rattle.ts_filter.specs.Boxes.{Box, values_at}
+use Rattle.ts_filter.specs.KeptCells.{AreKept, AreSized, IsAliveTerm, IsKeptIfKnown, IsSpared, IsSparedAt, IsTermKept, TermKept, below_all, forgotten, is_alive_in, spared_in, unknown, with_alive, with_known, with_spared}
 use Rattle.ts_filter.specs.MachineSpans.{spans_of}
 use Rattle.ts_filter.specs.OfTerm.{OfTerm}
 use Rattle.ts_filter.specs.RefutedWorseDrop.{Spans, IsDrop}
 use Rattle.ts_filter.specs.TermDrops.{IsDropAt, IsRefutedOutside}
+use Rattle.ts_filter.proofs.BoxParts.{domain_at}
 use Rattle.ts_filter.proofs.CallLaws.{to_refuted}
-use Rattle.ts_filter.proofs.DropLaws.{NoneUpTo, to_drop}
+use Rattle.ts_filter.proofs.CellLaws.{left_is}
+use Rattle.ts_filter.proofs.DropLaws.{AreLeft, NoneUpTo, all_left, fewer_left, to_drop}
 use Rattle.ts_filter.proofs.SoundLaws.{clash}
 use Rattle.ts_filter.proofs.TermsAsked.{looks_of}
 
@@ -85,7 +94,7 @@ known_at more kept term at t e =
 pub none_sized : (terms cells : ℕ) → AreSized terms cells (replicate terms (unknown cells))
 none_sized terms cells = record {
   terms_count = length-replicate terms (unknown cells);
-  cells_count = λ term t e. ap (λ (z : TermKept). length z.cells) (found_in_equals terms term (unknown cells) t e) ∙ length-replicate cells false;
+  cells_count = λ term t e. ap (λ (z : TermKept). length z.cells) (found_in_equals terms term (unknown cells) t e) ∙ length-replicate cells below_all;
 }
 
 pub forgotten_sized : (terms cells : ℕ) (kept : List TermKept) → AreSized terms cells kept → AreSized terms cells (map forgotten kept)
@@ -93,7 +102,7 @@ forgotten_sized terms cells kept h = record {
   terms_count = length-map kept forgotten ∙ h.terms_count;
   cells_count = λ term t e.
       let u = found_in_map forgotten kept term t e in
-      ap (λ (z : TermKept). length z.cells) u.2 ∙ length-map u.0.cells (λ known. false) ∙ h.cells_count term u.0 u.1;
+      ap (λ (z : TermKept). length z.cells) u.2 ∙ length-map u.0.cells (λ limit. below_all) ∙ h.cells_count term u.0 u.1;
 }
 
 more_sized : (more : TermKept → TermKept) (terms cells term : ℕ) (kept : List TermKept) → ((t : TermKept) → length (more t).cells ≡ length t.cells) →
@@ -108,9 +117,13 @@ more_sized more terms cells term kept same h = record {
 pub term_sized : (terms cells term : ℕ) (kept : List TermKept) → AreSized terms cells kept → AreSized terms cells (with_known with_alive term kept)
 term_sized terms cells term kept h = more_sized with_alive terms cells term kept (λ t. refl) h
 
-pub cell_sized : (terms cells term k : ℕ) (kept : List TermKept) → AreSized terms cells kept →
-    AreSized terms cells (with_known (with_spared k) term kept)
-cell_sized terms cells term k kept h = more_sized (with_spared k) terms cells term kept (λ t. length-set t.cells (k - 1) true) h
+pub cell_sized : (terms cells term k : ℕ) (limit : ℤ) (kept : List TermKept) → AreSized terms cells kept →
+    AreSized terms cells (with_known (with_spared k limit) term kept)
+cell_sized terms cells term k limit kept h = more_sized (with_spared k limit) terms cells term kept (λ t. length-set t.cells (k - 1) limit) h
+
+-- no value of a cell is so low
+under_all : (v l : ℤ) → l ≡ below_all → IsCellValue v → v ≤ℤ l → ⊥
+under_all v l e c at = let low = c.0 in omega (arith, ints, e, low, at)
 
 -- what is known stays right
 
@@ -118,48 +131,50 @@ module _ (rs : List Require) (s : Spans) (b : Box) where
   pub none_kept : (terms cells : ℕ) → AreKept rs s b (replicate terms (unknown cells))
   none_kept terms cells = record {
     alive = λ term t e marked. absurd (clash t.alive marked (ap (λ (z : TermKept). z.alive) (found_in_equals terms term (unknown cells) t e)));
-    spared = λ term i t e marked.
-        let same : t.cells ≡ replicate cells false = ap (λ (z : TermKept). z.cells) (found_in_equals terms term (unknown cells) t e) in
-        absurd (clash true refl (found_in_equals cells i false true (subst (λ l. slice_get l i ≡ Some true) same marked)));
+    spared = λ term i t limit e marked v j r c at.
+        let same : t.cells ≡ replicate cells below_all = ap (λ (z : TermKept). z.cells) (found_in_equals terms term (unknown cells) t e) in
+        absurd (under_all v limit (found_in_equals cells i below_all limit (subst (λ l. slice_get l i ≡ Some limit) same marked)) c at);
   }
 
   pub forgotten_kept : (kept : List TermKept) → AreKept rs s b (map forgotten kept)
   forgotten_kept kept = record {
     alive = λ term t e marked. absurd (clash t.alive marked (ap (λ (z : TermKept). z.alive) (found_in_map forgotten kept term t e).2));
-    spared = λ term i t e marked.
+    spared = λ term i t limit e marked v j r c at.
         let u = found_in_map forgotten kept term t e in
-        let same : t.cells ≡ map (λ known. false) u.0.cells = ap (λ (z : TermKept). z.cells) u.2 in
-        absurd (clash true refl (found_in_map (λ known. false) u.0.cells i true (subst (λ l. slice_get l i ≡ Some true) same marked)).2);
+        let same : t.cells ≡ map (λ limit. below_all) u.0.cells = ap (λ (z : TermKept). z.cells) u.2 in
+        absurd (under_all v limit (found_in_map (λ limit. below_all) u.0.cells i limit (subst (λ l. slice_get l i ≡ Some limit) same marked)).2 c at);
   }
 
   pub term_kept : (kept : List TermKept) (term : ℕ) → AreKept rs s b kept → IsAliveTerm rs s b term → AreKept rs s b (with_known with_alive term kept)
   term_kept kept term h new = record {
     alive = λ at t e marked.
         ⊎_elim (λ g. subst (IsAliveTerm rs s b) (sym g.0) new) (λ g. h.alive at t g marked) (known_at with_alive kept term at t e);
-    spared = λ at i t e marked.
+    spared = λ at i t limit e marked.
         ⊎_elim
-        (λ g. subst (λ z. IsSpared rs s b z (i + 1)) (sym g.0)
-        (h.spared term i g.1 g.2 (subst (λ (z : TermKept). slice_get z.cells i ≡ Some true) g.3 marked)))
-        (λ g. h.spared at i t g marked) (known_at with_alive kept term at t e);
+        (λ g. subst (λ z. IsSpared rs s b z (i + 1) limit) (sym g.0)
+        (h.spared term i g.1 limit g.2 (subst (λ (z : TermKept). slice_get z.cells i ≡ Some limit) g.3 marked)))
+        (λ g. h.spared at i t limit g marked) (known_at with_alive kept term at t e);
   }
 
-  pub cell_kept : (kept : List TermKept) (term k : ℕ) → 1 ≤ k → AreKept rs s b kept → IsSpared rs s b term k →
-      AreKept rs s b (with_known (with_spared k) term kept)
-  cell_kept kept term k from h new = record {
+  pub cell_kept : (kept : List TermKept) (term k : ℕ) (limit : ℤ) → 1 ≤ k → AreKept rs s b kept → IsSpared rs s b term k limit →
+      AreKept rs s b (with_known (with_spared k limit) term kept)
+  cell_kept kept term k limit from h new = record {
     alive = λ at t e marked.
         ⊎_elim (λ g. subst (IsAliveTerm rs s b) (sym g.0) (h.alive term g.1 g.2 (subst (λ (z : TermKept). z.alive ≡ true) g.3 marked)))
-        (λ g. h.alive at t g marked) (known_at (with_spared k) kept term at t e);
-    spared = λ at i t e marked.
+        (λ g. h.alive at t g marked) (known_at (with_spared k limit) kept term at t e);
+    spared = λ at i t l e marked.
         ⊎_elim
-        (λ g. subst (λ z. IsSpared rs s b z (i + 1)) (sym g.0)
-        (by_cell i g.1 g.2 (found_after_set g.1.cells (k - 1) i true true (subst (λ (z : TermKept). slice_get z.cells i ≡ Some true) g.3 marked))))
-        (λ g. h.spared at i t g marked) (known_at (with_spared k) kept term at t e);
+        (λ g. subst (λ z. IsSpared rs s b z (i + 1) l) (sym g.0)
+        (by_cell i g.1 l g.2 (found_after_set g.1.cells (k - 1) i limit l (subst (λ (z : TermKept). slice_get z.cells i ≡ Some l) g.3 marked))))
+        (λ g. h.spared at i t l g marked) (known_at (with_spared k limit) kept term at t e);
   }
     where
-      by_cell : (i : ℕ) (u : TermKept) → slice_get kept term ≡ Some u →
-          ((i ≡ k - 1) × (k - 1 < length u.cells) × ◌≡◌ {A = Bool} true true) ⊎ (slice_get u.cells i ≡ Some true) → IsSpared rs s b term (i + 1)
-      by_cell i u there (inl g) = let same = g.0 in let next : k ≡ i + 1 = omega (arith, same, from) in subst (IsSpared rs s b term) next new
-      by_cell i u there (inr g) = h.spared term i u there g
+      by_cell : (i : ℕ) (u : TermKept) (l : ℤ) → slice_get kept term ≡ Some u →
+          ((i ≡ k - 1) × (k - 1 < length u.cells) × (l ≡ limit)) ⊎ (slice_get u.cells i ≡ Some l) → IsSpared rs s b term (i + 1) l
+      by_cell i u l there (inl g) =
+          let same = g.0 in let next : k ≡ i + 1 = omega (arith, same, from) in
+          subst (λ n. IsSpared rs s b term n l) next (subst (IsSpared rs s b term k) (sym g.2) new)
+      by_cell i u l there (inr g) = h.spared term i u l there g
 
 -- of each machine
 
@@ -168,8 +183,8 @@ module _ (rs : List Require) (ms : List Automata) (b : Box) (kept : List TermKep
   term_of term t a e has looks = record {
     alive = λ marked k j u r.
         h.alive term t e marked k j r.require r.is r.of_term (to_refuted rs ms term a has j r.require r.is r.of_term k b u r.refutes);
-    spared = λ i r marked d.
-        h.spared term i t e marked r.value r.require d.1.refuting.require d.1.refuting.is d.1.refuting.of_term
+    spared = λ i limit marked r c at d.
+        h.spared term i t limit e marked r.value r.require d.1.refuting.require c at d.1.refuting.is d.1.refuting.of_term
         (subst (λ k. IsDrop rs (spans_of ms) k r.value r.require b) d.0 (to_drop rs ms b term a has looks r d.1));
   }
 
@@ -190,29 +205,71 @@ module _ (rs : List Require) (term : ℕ) (a : Automata) (b : Box) (kept : Optio
       by_entry None g m = clash false m refl
       by_entry (Some t) g m = g.alive m k j u r
 
-  pub none_at : (k : ℕ) → 1 ≤ k → is_spared_in kept k ≡ true → (r : Removal) → IsDropAt rs term a b k r → ⊥
-  none_at k from marked r d = by_entry kept h marked
+  pub spared_at : (k : ℕ) (limit : ℤ) → 1 ≤ k → limit ≡ spared_in kept k → IsSparedAt rs term a b k limit
+  spared_at k limit from is = by_entry kept h is
     where
-      is_marked : (o : Option Bool) → unwrap_or o false ≡ true → o ≡ Some true
-      is_marked None m = absurd (clash false m refl)
-      is_marked (Some z) m = ap (λ y. Some y) m
+      by_mark : (t : TermKept) → IsTermKept rs term a b t → (o : Option ℤ) → slice_get t.cells (k - 1) ≡ o → limit ≡ unwrap_or o below_all →
+          IsSparedAt rs term a b k limit
+      by_mark t g None e m = λ r c at d. under_all r.value limit m c at
+      by_mark t g (Some l) e m =
+          let next : (k - 1) + 1 ≡ k = omega (arith, from) in
+          subst (IsSparedAt rs term a b k) (sym m) (subst (λ z. IsSparedAt rs term a b z l) next (g.spared (k - 1) l e))
 
-      by_entry : (o : Option TermKept) → IsKeptIfKnown rs term a b o → is_spared_in o k ≡ true → ⊥
-      by_entry None g m = clash false m refl
-      by_entry (Some t) g m =
-          let next : k ≡ (k - 1) + 1 = omega (arith, from) in
-          g.spared (k - 1) r (is_marked (slice_get t.cells (k - 1)) m) (subst (λ z. IsDropAt rs term a b z r) next d)
+      by_entry : (o : Option TermKept) → IsKeptIfKnown rs term a b o → limit ≡ spared_in o k → IsSparedAt rs term a b k limit
+      by_entry None g m = λ r c at d. under_all r.value limit m c at
+      by_entry (Some t) g m = by_mark t g (slice_get t.cells (k - 1)) refl m
+
+  -- a value of a cell is one
+  cell_value : (k : ℕ) (v : ℤ) → IsBox b → 1 ≤ k → k ≤ length b → Contains (values_at k b) v → IsCellValue v
+  cell_value k v box from to has =
+      each_contains WithinLimits (values_at k b) v (domain_at b (k - 1) box (omega (arith, from, to))).within has
+
+  none_at : (k : ℕ) (limit : ℤ) → IsBox b → 1 ≤ k → limit ≡ spared_in kept k → greatest_value ≤ℤ limit → (r : Removal) → IsDropAt rs term a b k r → ⊥
+  none_at k limit box from is all r d =
+      let c = cell_value r.cell r.value box d.1.usable.from d.1.usable.to d.1.there in let most = c.1 in
+      spared_at k limit from is r c (omega (arith, ints, most, all)) d
 
   -- a cell more without a drop
-  pub none_up_to_next : (before : ℕ) → NoneUpTo rs term a b before → is_spared_in kept (before + 1) ≡ true → NoneUpTo rs term a b (before + 1)
-  none_up_to_next before none marked t d = by_cell (split t.cell (none t d))
+  pub none_up_to_next : (before : ℕ) (limit : ℤ) → IsBox b → NoneUpTo rs term a b before → limit ≡ spared_in kept (before + 1) → greatest_value ≤ℤ limit →
+      NoneUpTo rs term a b (before + 1)
+  none_up_to_next before limit box none is all t d = by_cell (split t.cell (none t d))
     where
       split : (k : ℕ) → before < k → (k ≡ before + 1) ⊎ (before + 1 < k)
       split k l = grind (arith, l)
 
       by_cell : (t.cell ≡ before + 1) ⊎ (before + 1 < t.cell) → before + 1 < t.cell
-      by_cell (inl e) = absurd (none_at (before + 1) (omega arith) marked t (e, d))
+      by_cell (inl e) = absurd (none_at (before + 1) limit box (omega arith) is all t (e, d))
       by_cell (inr l) = l
+
+-- where no value up to a limit is dropped, none of these is left to be asked
+
+pub up_to_place : (values : List ℤ) (i p : ℕ) (v limit : ℤ) → IsRising values → i < p + 1 → slice_get values i ≡ Some v →
+    slice_get values p ≡ Some limit → v ≤ℤ limit
+unfolding IsRising
+up_to_place [] i p v limit rises below e at = absurd (none-some v e)
+up_to_place (x ∷ values) zero zero v limit rises below e at = let same = same_Some v limit (sym e ∙ at) in omega (arith, ints, same)
+up_to_place (x ∷ values) zero (suc p) v limit rises below e at =
+    let same : x ≡ v = same_Some x v e in
+    let more = each_contains (λ y. x <ℤ y) values limit rises.0 (at_contains values p limit at) in omega (arith, ints, same, more)
+up_to_place (x ∷ values) (suc i) zero v limit rises below e at = absurd (omega (arith, below))
+up_to_place (x ∷ values) (suc i) (suc p) v limit rises below e at = up_to_place values i p v limit rises.1 (omega (arith, below)) e at
+
+module _ (rs : List Require) (term : ℕ) (a : Automata) (b : Box) (k : ℕ) (limit : ℤ) (spared : IsSparedAt rs term a b k limit) (usable : IsUsableOf a k b)
+    (many : 2 ≤ length (values_at k b)) (rises : IsRising (values_at k b)) (within : AllByRecursion WithinLimits (values_at k b)) where
+  pub left_above : (n : ℕ) → n ≤ length (values_at k b) → ((i : ℕ) (v : ℤ) → i < n → slice_get (values_at k b) i ≡ Some v → v ≤ℤ limit) →
+      AreLeft rs term a b k (drop n (values_at k b))
+  left_above zero to up = all_left rs term a b k rises
+  left_above (suc n) to up =
+      let all = values_at k b in let v = get_or all n (pos 0) in
+      let lt : n < length all = omega (arith, to) in
+      let is : slice_get all n ≡ Some v = slice_get-get_or all n (pos 0) lt in
+      let there = at_contains all n v is in
+      let e : n + 1 ≡ suc n = omega arith in
+      subst (λ i. AreLeft rs term a b k (drop i all)) e
+      (fewer_left rs term a b k (drop n all) (drop (n + 1) all) v
+      (left_above n (omega (arith, to)) (λ i u l. up i u (omega (arith, l)))) (left_is all n v lt is)
+      (λ j h. spared (record { cell = k; value = v; require = j }) (each_contains WithinLimits all v within there) (up n v (omega arith) is)
+      (refl, record { usable = usable; many = many; there = there; refuting = h })))
 
 -- as the code holds the requirements of the term
 pub kept_of_own : (own : TermRequirements) (rs : List Require) (term : ℕ) (a : Automata) (b : Box) (kept : Option TermKept) → own.all.now ≡ rs →

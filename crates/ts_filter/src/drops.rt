@@ -1,15 +1,16 @@
 //! Values that may be taken out of their cells.
 
-ghost use Rattle.std.specs.Prelude.{◌≡◌, ◌+◌, ◌<◌, ◌≤◌, ℕ, IfOk, length, map, option_map};
+ghost use Rattle.std.specs.Prelude.{◌≡◌, ◌+◌, ◌<◌, ◌≤◌, ◌≤ℤ◌, ℕ, ℤ, IfOk, Some, length, map, option_map, slice_get};
 ghost use Rattle.std.specs.List.{AllByRecursion};
 ghost use Rattle.ts_base.specs.Limits.{too_many};
 ghost use Rattle.ts_bound.specs.TermSpans.{IsUsable, LooksIn, automata_of};
+ghost use Rattle.ts_domain.specs.BoxSeries.{IsBox};
 ghost use Rattle.ts_domain.specs.Values.{IsDomain};
 ghost use Rattle.ts_filter.specs.Drops.{IsFirstDrop, IsFirstOf};
 ghost use Rattle.ts_filter.specs.Boxes.{HasCell, values_at};
 ghost use Rattle.ts_filter.specs.CellHulls.{Serves};
 ghost use Rattle.ts_filter.specs.Question.{AsksEach};
-ghost use Rattle.ts_filter.specs.KeptCells.{IsKeptIfKnown};
+ghost use Rattle.ts_filter.specs.KeptCells.{IsKeptIfKnown, IsSparedAt};
 ghost use Rattle.ts_filter.specs.KnownRows.{AreKnown, StillKnown};
 ghost use Rattle.ts_filter.specs.MachineSpans.{spans_of};
 ghost use Rattle.ts_filter.specs.TermDrops.{IsDropAt, IsDropUpTo, IsRefutedOutside, MayHaveDrop};
@@ -18,12 +19,13 @@ ghost use Rattle.ts_filter.specs.TermDrops.{cell_up_to, comes_before, earlier_of
 use crate::box_tables::BoxTables;
 use crate::cell_hulls::CellHulls;
 use crate::held_machine::HeldMachine;
-use crate::kept_cells::{KeptTerm, is_alive, is_spared};
+use crate::kept_cells::{KeptTerm, is_alive, spared_to};
 use crate::question::Question;
 use crate::term_requirements::TermRequirements;
 use std::alloc::Global;
 use ts_base::Memory;
-use ts_domain::Boxed;
+use ts_base::limits::CELL_VALUE;
+use ts_domain::{Boxed, Domain};
 use ts_glue::Machine;
 use ts_model::Require;
 
@@ -143,7 +145,7 @@ impl<'a> BoxTables<'a> {
     }
 
     /// The first of the drops by these requirements up to cell `last`, where `outside` is refuted outside the window.
-    /// Cells that are known to be spared are passed over, so no row is made for them.
+    /// Cells of which all values are known to be spared are passed over, so no row is made for them.
     fn drop_in_cells(
         &mut self,
         alloc: Global,
@@ -164,10 +166,11 @@ impl<'a> BoxTables<'a> {
     {
         let (from, to) = self.asked_for_drops(outside, cells);
         for before in from..to.min(last) {
-            if is_spared(kept, before + 1) {
+            let limit = spared_to(kept, before + 1);
+            if limit >= CELL_VALUE {
                 continue;
             }
-            let found = self.drop_at(alloc, before + 1, own, outside, cells)?;
+            let found = self.drop_at(alloc, before + 1, own, outside, limit, cells)?;
             if found.is_some() {
                 return Ok(found);
             }
@@ -209,30 +212,34 @@ impl<'a> BoxTables<'a> {
     /// be used, or only those inside the window if no drop can be outside it.
     fn asked_for_drops(&self, outside: Option<u32>, cells: &Boxed) -> (u32, u32)
         requires { LooksIn self.now.machine cells.now.present }
+        ensures domains { IsBox cells.now.present }
         ensures each { (k : ℕ) → result.0 < k → k ≤ result.1 → IsUsable self.now.machine k cells.now.present }
         ensures all { (k : ℕ) → IsUsable self.now.machine k cells.now.present →
             MayHaveDrop self.now.machine outside k → (result.0 < k) × (k ≤ result.1) }
     {
+        let count = cells.cells();
         let unusable = self.unusable(cells);
         let (first, last) = self.ends(cells);
         match outside {
-            Some(_) => (unusable, cells.cells()),
+            Some(_) => (unusable, count),
             None => (unusable.max(first - 1), last),
         }
     }
 
-    /// The first of the drops at cell `k`, where `outside` is refuted if that is outside the window. No row is made for
-    /// a cell that has one value alone.
+    /// The first of the drops at cell `k`, where `outside` is refuted if that is outside the window. None is of a
+    /// value up to the limit. No row is made for a cell that has one value alone.
     fn drop_at(
         &mut self,
         alloc: Global,
         k: u32,
         own: TermRequirements<'_>,
         outside: Option<u32>,
+        limit: i64,
         cells: &Boxed,
     ) -> Result<Option<Removal>, Memory>
         requires usable { IsUsable self.old.machine k cells.now.present }
         requires outside { IsRefutedOutside own.all.now own.term self.old.machine cells.now.present outside }
+        requires spared { IsSparedAt own.all.now own.term self.old.machine cells.now.present k limit }
         requires looks { LooksIn self.old.machine cells.now.present }
         requires known { AreKnown cells.now.present self.old }
         ensures known { StillKnown cells.now.present self.old self.new }
@@ -247,7 +254,7 @@ impl<'a> BoxTables<'a> {
         }
         let asked = Question::each_met(own);
         self.make_at(alloc, asked, k, cells)?;
-        Ok(drop_in_cell(&self.hulls_at(k, cells), asked, own))
+        Ok(drop_in_cell(&self.hulls_at(k, cells), asked, own, limit))
     }
 
     /// How many cells come before the first that may be used: all but the last where the machine can't be split.
@@ -265,16 +272,18 @@ impl<'a> BoxTables<'a> {
     }
 }
 
-/// The first of the drops at one cell by these requirements. Most values are passed over without being found: pairs of
-/// states settle that none of the requirements is refuted there.
+/// The first of the drops at one cell by these requirements, none of which is of a value up to the limit. Most values
+/// are passed over without being found: pairs of states settle that none of the requirements is refuted there.
 fn drop_in_cell(
     hulls: &CellHulls<'_>,
     asked: Question<'_>,
     own: TermRequirements<'_>,
+    limit: i64,
 ) -> Option<Removal>
     requires usable { IsUsable hulls.now.machine hulls.now.cell hulls.now.cells }
     requires serves { Serves hulls.now asked }
     requires asked { AsksEach own asked }
+    requires spared { IsSparedAt own.all.now own.term hulls.now.machine hulls.now.cells hulls.now.cell limit }
     ensures { IsFirstOf (IsDropAt own.entry.all.now own.entry.term
         hulls.now.machine hulls.now.cells hulls.now.cell) result }
 {
@@ -283,7 +292,8 @@ fn drop_in_cell(
     if values.size() < 2 {
         return None;
     }
-    let mut i = hulls.settled_to(asked, 0, values.size());
+    let above = count_up_to(values, limit);
+    let mut i = hulls.settled_to(asked, above, values.size());
     while i < values.size() {
         let value = values.nth(i);
         if let Some(require) = hulls.first_refuted(asked, own, i, value) {
@@ -296,6 +306,20 @@ fn drop_in_cell(
         i = hulls.settled_further(asked, i + 1, values.size());
     }
     None
+}
+
+/// How many values come first that are at most the limit, as far as it pays to look: none where it isn't one of them.
+fn count_up_to(values: &Domain, limit: i64) -> u64
+    ensures to { result ≤ length values.now }
+    ensures below { (i : ℕ) (v : ℤ) → i < result → slice_get values.now i ≡ Some v → v ≤ℤ limit }
+{
+    // its values rise, and their number fits
+    values.size();
+    if values.contains(limit) {
+        values.place_of(limit) + 1
+    } else {
+        0
+    }
 }
 
 /// The drop of the least value of cell `k` by a requirement that is refuted whatever value the cell has.

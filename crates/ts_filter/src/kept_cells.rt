@@ -1,20 +1,24 @@
 //! What is known of drops before any is looked for.
 
-ghost use Rattle.std.specs.Prelude.{◌≡◌, ◌-◌, ◌<◌, ◌≤◌, IfOk, Some, false, length, map, option_map, replicate};
+ghost use Rattle.std.specs.Prelude.{◌≡◌, ◌-◌, ◌<◌, ◌≤◌, IfOk, Some, length, map, option_map, replicate};
 ghost use Rattle.std.specs.Prelude.{slice_get, unwrap_or};
-ghost use Rattle.ts_filter.specs.KeptCells.{TermKept, forgotten, is_alive_in, is_spared_in, unknown};
+ghost use Rattle.ts_filter.specs.KeptCells.{TermKept, below_all, forgotten, is_alive_in, spared_in, unknown};
 ghost use Rattle.ts_filter.specs.KeptCells.{with_alive, with_known, with_spared};
 
 use std::alloc::Global;
 use std::marker::Model;
 use ts_base::Memory;
+use ts_base::limits::CELL_VALUE;
 
-/// What is known of the requirements on one term: whether none is refuted at any cell, and at which cells none drops a
-/// value.
+/// A limit that no value of a cell is up to.
+const BELOW_ALL: i64 = -CELL_VALUE - 1;
+
+/// What is known of the requirements on one term: whether none is refuted at any cell, and up to which value none drops
+/// one of a cell.
 #[derive(Drop)]
 pub(crate) struct KeptTerm {
     alive: bool,
-    cells: Vec<bool>,
+    cells: Vec<i64>,
 }
 
 impl Model for KeptTerm {
@@ -25,8 +29,8 @@ impl Model for KeptTerm {
     ghost view = { λ t. record { alive = t.alive; cells = t.cells.items } };
 }
 
-/// For each term, as far as its user knows: whether its requirements are refuted nowhere in a box, and at which cells
-/// they drop no value.
+/// For each term, as far as its user knows: whether its requirements are refuted nowhere in a box, and up to which
+/// value of each cell they drop none.
 #[derive(Drop)]
 pub struct KeptCells {
     each: Vec<KeptTerm>,
@@ -68,14 +72,14 @@ impl KeptCells {
         self.each[term].keep();
     }
 
-    /// No requirement on the term drops a value of cell `k`, counted from 1.
-    pub fn keep_cell(&mut self, term: usize, k: u32)
+    /// No requirement on the term drops a value of cell `k`, counted from 1, that is at most `limit`.
+    pub fn keep_cell(&mut self, term: usize, k: u32, limit: i64)
         requires term { term < length self.old }
         requires from { 1 ≤ k }
         requires to { (t : TermKept) → slice_get self.old term ≡ Some t → k ≤ length t.cells }
-        ensures { self.new ≡ with_known (with_spared k) term self.old }
+        ensures { self.new ≡ with_known (with_spared k limit) term self.old }
     {
-        self.each[term].keep_cell(k);
+        self.each[term].keep_cell(k, limit);
     }
 
     /// What is known of the term; none where it isn't one of these.
@@ -90,7 +94,7 @@ impl KeptTerm {
     fn new(alloc: Global, cells: usize) -> Result<KeptTerm, Memory>
         ensures { IfOk result (λ t. t ≡ unknown cells) }
     {
-        let cells = vec![in alloc; false; cells]?;
+        let cells = vec![in alloc; BELOW_ALL; cells]?;
         Ok(KeptTerm {
             alive: false,
             cells,
@@ -110,21 +114,21 @@ impl KeptTerm {
         self.alive = true;
     }
 
-    fn keep_cell(&mut self, k: u32)
+    fn keep_cell(&mut self, k: u32, limit: i64)
         requires from { 1 ≤ k }
         requires to { k ≤ length self.old.cells }
-        ensures { self.new ≡ with_spared k self.old }
+        ensures { self.new ≡ with_spared k limit self.old }
     {
-        self.cells[k as usize - 1] = true;
+        self.cells[k as usize - 1] = limit;
     }
 
-    fn is_spared(&self, k: u32) -> bool
+    fn spared_to(&self, k: u32) -> i64
         requires { 1 ≤ k }
-        ensures { result ≡ unwrap_or (slice_get self.now.cells (k - 1)) false }
+        ensures { result ≡ unwrap_or (slice_get self.now.cells (k - 1)) below_all }
     {
         match self.cells.get(k as usize - 1) {
-            Some(spared) => *spared,
-            None => false,
+            Some(limit) => *limit,
+            None => BELOW_ALL,
         }
     }
 }
@@ -139,14 +143,14 @@ pub(crate) fn is_alive(kept: Option<&KeptTerm>) -> bool
     }
 }
 
-/// Whether it is known that no requirement on the term drops a value of cell `k`.
-pub(crate) fn is_spared(kept: Option<&KeptTerm>, k: u32) -> bool
+/// The number up to which no requirement on the term is known to drop a value of cell `k`.
+pub(crate) fn spared_to(kept: Option<&KeptTerm>, k: u32) -> i64
     requires { 1 ≤ k }
-    ensures { result ≡ is_spared_in (option_map (λ t. t.now) kept.entry) k }
+    ensures { result ≡ spared_in (option_map (λ t. t.now) kept.entry) k }
 {
     match kept {
-        Some(term) => term.is_spared(k),
-        None => false,
+        Some(term) => term.spared_to(k),
+        None => BELOW_ALL,
     }
 }
 
@@ -160,10 +164,10 @@ fn forget_each(each: &mut [KeptTerm])
 }
 
 /// Takes away all marks.
-fn clear(marks: &mut [bool])
-    ensures { marks.new ≡ map (λ known. false) marks.old }
+fn clear(marks: &mut [i64])
+    ensures { marks.new ≡ map (λ limit. below_all) marks.old }
 {
     for i in 0..marks.len() {
-        marks[i] = false;
+        marks[i] = BELOW_ALL;
     }
 }

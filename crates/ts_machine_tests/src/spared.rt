@@ -73,8 +73,8 @@ fn cells_spared(
     let mut count = 0;
     for k in 1..cells.len() as u32 + 1 {
         let values = cells[k as usize - 1].ends();
-        let keeps = spared.keeps_between(&mut witness, m, r, k, values.low, values.high);
-        count += u32::from(keeps);
+        let limit = spared.keeps_up_to(&mut witness, m, r, k, values.low, values.high);
+        count += u32::from(limit == values.high);
     }
     Ok(Some(count))
 }

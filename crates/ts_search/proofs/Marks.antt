@@ -1,5 +1,6 @@
 -- What the marks of terms and cells rest on, and how they come.
-use Rattle.std.proofs.Common.{◌≡◌, ℕ, zero, suc, ◌+◌, ◌-◌, ◌<◌, ◌≤◌, ℤ, ◌≤ℤ◌, Bool, true, false, List, [], ◌∷◌, length, get_or, map, set, Option, Some, None, slice_get, ◌⊎◌, inl, inr, ⊎_elim, refl, sym, ◌∙◌, ap, subst, arith}
+use Rattle.std.proofs.Common.{◌≡◌, ℕ, zero, suc, ◌+◌, ◌-◌, ◌<◌, ◌≤◌, ℤ, ◌<ℤ◌, ◌≤ℤ◌, Bool, true, false, List, [], ◌∷◌, length, get_or, map, set, Option, Some, None, slice_get, ◌⊎◌, inl, inr, ⊎_elim, refl, sym, ◌∙◌, ap, subst, arith}
+use Rattle.std.proofs.lemmas.Int.{ints}
 use Rattle.std.proofs.lemmas.Option.{same_Some, slice_get_within}
 use Rattle.std.proofs.lemmas.List.{length-map, length-set}
 use Rattle.std.specs.Prelude.{Contains, IsSome, IsTrue, option_map, unwrap_or}
@@ -125,16 +126,15 @@ module _ (q : Problem) (posed : IsPosed q) (w : Witnesses) (b : Box) (part : IsP
     pub value_known : (v : ℤ) → Contains (values_at at.cell b) v → Contains (get_or s.spared.cells.now (at.place - 1) []) v
     value_known v has = subst (λ d. Contains d v) (sym domain_is) (inside_at b (search_of q).model.cells (at.cell - 1) v part.inside has)
 
-    pub spared_there : (low high : ℤ) → ((v : ℤ) → Contains (values_at at.cell b) v → (low ≤ℤ v) × (v ≤ℤ high)) →
-        ((v : ℤ) → Contains (get_or s.spared.cells.now (at.place - 1) []) v → low ≤ℤ v → v ≤ℤ high →
+    pub spared_there : (low limit : ℤ) → ((v : ℤ) → Contains (values_at at.cell b) v → low ≤ℤ v) →
+        ((v : ℤ) → Contains (get_or s.spared.cells.now (at.place - 1) []) v → low ≤ℤ v → v ≤ℤ limit →
         IsKept (automata_of s.machine.now) r (series_of s.witness) at.place v) →
-        (v : ℤ) → IsDrop q.model.now.requirements.items (search_of q).spans at.cell v (i + 1) b → ⊥
-    spared_there low high ends kept v drop =
-        let bound = ends v drop.there in
+        (v : ℤ) → v ≤ℤ limit → IsDrop q.model.now.requirements.items (search_of q).spans at.cell v (i + 1) b → ⊥
+    spared_there low limit least kept v up drop =
         let j : i + 1 - 1 ≡ i = omega arith in
         clash (is_drop q.model.now.requirements.items (search_of q).spans at.cell v (i + 1) b)
         (((tests_tell (search_of q).spans).drop q.model.now.requirements.items at.cell v (i + 1) b).1 drop)
-        (kept v (value_known v drop.there) bound.0 bound.1 (search_of q).model (spans_in (search_of q).model) (i + 1) b
+        (kept v (value_known v drop.there) (least v drop.there) up (search_of q).model (spans_in (search_of q).model) (i + 1) b
         (asked q posed w b part shown (i + 1) s r (omega arith) (ap (slice_get w.each.items) j ∙ there)
         (ap (slice_get q.model.now.requirements.items) j ∙ require)) at.cell cell is_looked_there place_is drop.there)
 
@@ -172,11 +172,24 @@ pub none_of_other : (q : Problem) (term i : ℕ) (r u : Require) → slice_get q
     slice_get q.model.now.requirements.items i ≡ Some u → u.term ≡ term → ⊥
 none_of_other q term i r u is apart also on = apart (ap (λ (z : Require). z.term) (same_Some r u (sym is ∙ also)) ∙ on)
 
--- the requirements before a place drop nothing of the cell
-abbrev pub SparedBelow : Problem → Box → Looked → ℕ → Type 0
-SparedBelow q b at n =
+-- below the least value of a cell there is none to be dropped
+pub none_under : (q : Problem) (b : Box) (cell j : ℕ) (values : Interval) (limit v : ℤ) → IsEnds (values_at cell b) values → limit <ℤ values.low → v ≤ℤ limit →
+    IsDrop q.model.now.requirements.items (search_of q).spans cell v j b → ⊥
+none_under q b cell j values limit v ends less up drop = let low = (ends.all v drop.there).0 in omega (arith, ints, low, less, up)
+
+-- above the greatest there is none either
+pub none_over : (q : Problem) (b : Box) (term cell : ℕ) (values : Interval) (limit more : ℤ) → IsEnds (values_at cell b) values →
+    (more ≡ limit) ⊎ (limit ≡ values.high) → IsSpared q.model.now.requirements.items (search_of q).spans b term cell limit →
+    IsSpared q.model.now.requirements.items (search_of q).spans b term cell more
+none_over q b term cell values limit more ends (inl e) spared = subst (IsSpared q.model.now.requirements.items (search_of q).spans b term cell) (sym e) spared
+none_over q b term cell values limit more ends (inr e) spared =
+    λ v j r c up is on drop. spared v j r c (let high = (ends.all v drop.there).1 in omega (arith, ints, e, high)) is on drop
+
+-- the requirements before a place drop nothing of the cell up to the limit
+abbrev pub SparedBelow : Problem → Box → Looked → ℤ → ℕ → Type 0
+SparedBelow q b at limit n =
     (i : ℕ) (r : Require) → i < n → slice_get q.model.now.requirements.items i ≡ Some r → r.term ≡ at.term →
-    (v : ℤ) → IsDrop q.model.now.requirements.items (search_of q).spans at.cell v (i + 1) b → ⊥
+    (v : ℤ) → v ≤ℤ limit → IsDrop q.model.now.requirements.items (search_of q).spans at.cell v (i + 1) b → ⊥
 
 below_split : (k i : ℕ) → k < i + 1 → (k ≡ i → ⊥) → k < i
 below_split zero zero l n = absurd (n refl)
@@ -190,25 +203,25 @@ same_or_other zero (suc n) = inr (λ e. omega (arith, e))
 same_or_other (suc i) zero = inr (λ e. omega (arith, e))
 same_or_other (suc i) (suc n) = ⊎_elim (λ e. inl (ap suc e)) (λ apart. inr (λ e. apart (omega (arith, e)))) (same_or_other i n)
 
-pub spared_next : (q : Problem) (b : Box) (at : Looked) (n : ℕ) → SparedBelow q b at n →
+pub spared_next : (q : Problem) (b : Box) (at : Looked) (limit less : ℤ) (n : ℕ) → less ≤ℤ limit → SparedBelow q b at limit n →
     ((r : Require) → slice_get q.model.now.requirements.items n ≡ Some r → r.term ≡ at.term →
-    (v : ℤ) → IsDrop q.model.now.requirements.items (search_of q).spans at.cell v (n + 1) b → ⊥) →
-    SparedBelow q b at (n + 1)
-spared_next q b at n h one i r below is on v drop =
+    (v : ℤ) → v ≤ℤ less → IsDrop q.model.now.requirements.items (search_of q).spans at.cell v (n + 1) b → ⊥) →
+    SparedBelow q b at less (n + 1)
+spared_next q b at limit less n under h one i r below is on v up drop =
     ⊎_elim
-    (λ e. one r (ap (slice_get q.model.now.requirements.items) (sym e) ∙ is) on v
+    (λ e. one r (ap (slice_get q.model.now.requirements.items) (sym e) ∙ is) on v up
     (subst (λ z. IsDrop q.model.now.requirements.items (search_of q).spans at.cell v (z + 1) b) e drop))
-    (λ apart. h i r (below_split i n below apart) is on v drop)
+    (λ apart. h i r (below_split i n below apart) is on v (omega (arith, ints, under, up)) drop)
     (same_or_other i n)
 
 -- at the end none does
-pub all_spared : (q : Problem) (b : Box) (at : Looked) (n : ℕ) → SparedBelow q b at n → length q.model.now.requirements.items ≤ n →
-    IsSpared q.model.now.requirements.items (search_of q).spans b at.term at.cell
-all_spared q b at n h few v j r is on drop =
+pub all_spared : (q : Problem) (b : Box) (at : Looked) (limit : ℤ) (n : ℕ) → SparedBelow q b at limit n → length q.model.now.requirements.items ≤ n →
+    IsSpared q.model.now.requirements.items (search_of q).spans b at.term at.cell limit
+all_spared q b at limit n h few v j r c up is on drop =
     let below = slice_get_within q.model.now.requirements.items (j - 1) r is.1 in
     let from = is.0 in
     let next : j ≡ j - 1 + 1 = omega (arith, from) in
-    h (j - 1) r (omega (arith, below, few)) is.1 on v (subst (λ z. IsDrop q.model.now.requirements.items (search_of q).spans at.cell v z b) next drop)
+    h (j - 1) r (omega (arith, below, few)) is.1 on v up (subst (λ z. IsDrop q.model.now.requirements.items (search_of q).spans at.cell v z b) next drop)
 
 -- the machine of a witness of a requirement on the term is the term's, and looks at cells of the model
 
@@ -284,14 +297,14 @@ module _ (q : Problem) (posed : IsPosed q) (w w' : Witnesses) (b : Box) (same : 
     ends = subst (λ z. AreEnds b z.items) (sym ends) h.ends;
   }
 
-  pub mark_spared : (term k : ℕ) → 1 ≤ k → w'.ends ≡ w.ends → w'.kept ≡ with_known (with_spared k) term w.kept →
-      IsSpared q.model.now.requirements.items (search_of q).spans b term k → AreMarked q w b → AreMarked q w' b
-  mark_spared term k from ends change spared h = record {
+  pub mark_spared : (term k : ℕ) (limit : ℤ) → 1 ≤ k → w'.ends ≡ w.ends → w'.kept ≡ with_known (with_spared k limit) term w.kept →
+      IsSpared q.model.now.requirements.items (search_of q).spans b term k limit → AreMarked q w b → AreMarked q w' b
+  mark_spared term k limit from ends change spared h = record {
     shown = shown_with_marks q w w' same (ap (λ z. length z.items) ends) b
         (subst (AreSized (length q.model.now.terms.entries) (last (search_of q))) (sym change)
-        (cell_sized (length q.model.now.terms.entries) (last (search_of q)) term k w.kept h.shown.held.sized)) h.shown;
+        (cell_sized (length q.model.now.terms.entries) (last (search_of q)) term k limit w.kept h.shown.held.sized)) h.shown;
     marks = subst (AreKept q.model.now.requirements.items (search_of q).spans b) (sym change)
-        (cell_kept q.model.now.requirements.items (search_of q).spans b w.kept term k from h.marks spared);
+        (cell_kept q.model.now.requirements.items (search_of q).spans b w.kept term k limit from h.marks spared);
     ends = subst (λ z. AreEnds b z.items) (sym ends) h.ends;
   }
 

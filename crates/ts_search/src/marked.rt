@@ -1,6 +1,7 @@
 //! What witnesses show of drops, marked before any is looked for.
 
-ghost use Rattle.std.specs.Prelude.{◌≡◌, ◌↔◌, ◌+◌, ◌<◌, ℤ, IfSome, IsTrue, Some, length, slice_get};
+ghost use Rattle.std.specs.Prelude.{◌≡◌, ◌↔◌, ◌⊎◌, ◌+◌, ◌<◌, ◌≤ℤ◌, ℤ, IfSome, IsTrue, Some};
+ghost use Rattle.std.specs.Prelude.{length, slice_get};
 ghost use Rattle.ts_domain.specs.BoxSeries.{IsCell};
 ghost use Rattle.ts_filter.specs.Boxes.{IsPart, values_at};
 ghost use Rattle.ts_filter.specs.KeptCells.{IsSpared};
@@ -12,6 +13,7 @@ ghost use Rattle.ts_search.specs.Views.{search_of};
 
 use crate::problem::Problem;
 use crate::witnesses::Witnesses;
+use ts_base::limits::CELL_VALUE;
 use ts_bound::ends;
 use ts_domain::{Boxed, Interval};
 
@@ -24,8 +26,8 @@ struct Looked {
 }
 
 impl<'a> Witnesses<'a> {
-    /// Marks the terms of which no requirement is refuted, since all are met by their witnesses, and the cells of which
-    /// none of them drops a value, as far as the witnesses show. Nothing is allocated.
+    /// Marks the terms of which no requirement is refuted, since all are met by their witnesses, and up to which value
+    /// none of them drops one of a cell, as far as the witnesses show. Nothing is allocated.
     pub(crate) fn mark(&mut self, problem: &Problem<'_>, cells: &Boxed)
         requires posed { IsPosed problem.now }
         requires part { IsPart cells.now.present (search_of problem.now).model.cells }
@@ -78,7 +80,7 @@ impl<'a> Witnesses<'a> {
         true
     }
 
-    /// Marks a cell of a term whose requirements all are met, if none of them drops a value there.
+    /// Marks a cell of a term whose requirements all are met with the value up to which none of them drops one there.
     fn mark_cell(&mut self, problem: &Problem<'_>, at: Looked, cells: &Boxed)
         requires posed { IsPosed problem.now }
         requires part { IsPart cells.now.present (search_of problem.now).model.cells }
@@ -94,14 +96,23 @@ impl<'a> Witnesses<'a> {
         if values.low == values.high {
             return;
         }
-        if self.spares(problem, at, values, cells) {
-            self.kept.keep_cell(at.term as usize, at.cell);
+        let limit = self.spares_up_to(problem, at, values, cells);
+        if limit < values.low {
+            return;
         }
+        let limit = or_above_all(limit, values.high);
+        self.kept.keep_cell(at.term as usize, at.cell, limit);
     }
 
-    /// Whether no requirement on a term, all of which are met, drops a value of the cell, as far as their witnesses
-    /// show. Its domain has these ends.
-    fn spares(&mut self, problem: &Problem<'_>, at: Looked, values: Interval, cells: &Boxed) -> bool
+    /// Up to which value no requirement on a term, all of which are met, drops one of the cell, as far as their
+    /// witnesses show. Its domain has these ends.
+    fn spares_up_to(
+        &mut self,
+        problem: &Problem<'_>,
+        at: Looked,
+        values: Interval,
+        cells: &Boxed,
+    ) -> i64
         requires posed { IsPosed problem.now }
         requires part { IsPart cells.now.present (search_of problem.now).model.cells }
         requires shown { AreShown problem.now self.old cells.now.present }
@@ -113,27 +124,27 @@ impl<'a> Witnesses<'a> {
         ensures met { AreMet problem.now self.new at.term }
         ensures same { self.new.kept ≡ self.old.kept }
         ensures same_ends { self.new.ends ≡ self.old.ends }
-        ensures spared { IsTrue result → IsSpared problem.now.model.now.requirements.items
-            (search_of problem.now).spans cells.now.present at.term at.cell }
+        ensures spared { IsSpared problem.now.model.now.requirements.items
+            (search_of problem.now).spans cells.now.present at.term at.cell result }
     {
+        let mut limit = values.high;
         for i in 0..problem.model.requirements.len() {
-            if !self.spares_one(problem, i, at, values, cells) {
-                return false;
-            }
+            limit = self.spares_by_one(problem, i, at, values, limit, cells);
         }
-        true
+        limit
     }
 
-    /// Whether the requirement at place `i`, counted from 0, drops no value of the cell, whose domain has these ends,
-    /// or is on another term.
-    fn spares_one(
+    /// Up to which value, `limit` at most, the requirement at place `i`, counted from 0, drops none of the cell, whose
+    /// domain has these ends; `limit` where it is on another term.
+    fn spares_by_one(
         &mut self,
         problem: &Problem<'_>,
         i: usize,
         at: Looked,
         values: Interval,
+        limit: i64,
         cells: &Boxed,
-    ) -> bool
+    ) -> i64
         requires posed { IsPosed problem.now }
         requires part { IsPart cells.now.present (search_of problem.now).model.cells }
         requires shown { AreShown problem.now self.old cells.now.present }
@@ -146,17 +157,29 @@ impl<'a> Witnesses<'a> {
         ensures met { AreMet problem.now self.new at.term }
         ensures same { self.new.kept ≡ self.old.kept }
         ensures same_ends { self.new.ends ≡ self.old.ends }
-        ensures spared { IsTrue result → (r : Require) →
+        ensures most { result ≤ℤ limit }
+        ensures spared { (r : Require) →
             slice_get problem.now.model.now.requirements.items i ≡ Some r → r.term ≡ at.term → (v : ℤ) →
-            IsDrop problem.now.model.now.requirements.items (search_of problem.now).spans at.cell v (i + 1)
+            v ≤ℤ result → IsDrop problem.now.model.now.requirements.items (search_of problem.now).spans at.cell v
+            (i + 1)
             cells.now.present → ⊥ }
     {
         let r = &problem.model.requirements[i];
         if r.term != at.term {
-            return true;
+            return limit;
         }
-        self.each[i].spares(r, at.place, values.low, values.high)
+        if limit < values.low {
+            return limit;
+        }
+        self.each[i].spares_up_to(r, at.place, values.low, limit)
     }
+}
+
+/// The limit, or one above all values that a cell may have where it is the greatest of the cell.
+fn or_above_all(limit: i64, greatest: i64) -> i64
+    ensures { (result ≡ limit) ⊎ (limit ≡ greatest) }
+{
+    if limit == greatest { CELL_VALUE } else { limit }
 }
 
 /// The place of the first requirement on the term, counted from 0.

@@ -242,9 +242,9 @@ impl<'a> Shown<'a> {
         self.met = false;
     }
 
-    /// Whether the requirement, as far as the series shows, drops no value from `low` to `high` of the cell at place
-    /// `k` of those that are looked at, counted from 1: with each of these values there the series meets it.
-    pub(crate) fn spares(&mut self, r: &Require, k: u32, low: i64, high: i64) -> bool
+    /// A number, `high` at most, up to which the requirement, as far as the series shows, drops no value from `low` on
+    /// of the cell at place `k` of those that are looked at, counted from 1: with each of these the series meets it.
+    pub(crate) fn spares_up_to(&mut self, r: &Require, k: u32, low: i64, high: i64) -> i64
         requires split { IsSome (pair_of self.old.machine.now) }
         requires held { IsHeld r.now self.old }
         requires few { length (series_of self.old.witness) ≤ most_cells }
@@ -257,12 +257,13 @@ impl<'a> Shown<'a> {
         ensures held { IsHeld r.now self.new }
         ensures series { series_of self.new.witness ≡ series_of self.old.witness }
         ensures met { self.new.met ≡ self.old.met }
-        ensures kept { IsTrue result → (v : ℤ) → Contains (get_or self.old.spared.cells.now (k - 1) []) v →
-            low ≤ℤ v → v ≤ℤ high → IsKept (automata_of self.old.machine.now) r.now (series_of self.old.witness) k v }
+        ensures most { result ≤ℤ high }
+        ensures kept { (v : ℤ) → Contains (get_or self.old.spared.cells.now (k - 1) []) v →
+            low ≤ℤ v → v ≤ℤ result → IsKept (automata_of self.old.machine.now) r.now (series_of self.old.witness) k v }
     {
         let witness = &mut self.witness;
         self.spared
-            .keeps_between(witness, self.machine, r, k, low, high)
+            .keeps_up_to(witness, self.machine, r, k, low, high)
     }
 }
 

@@ -1,6 +1,6 @@
 -- What is known of the values at each place, wherever the runs have come to the same, and as more values are tried.
-use Rattle.std.proofs.Common.{◌≡◌, ◌⊎◌, inl, inr, ⊎_elim, ℕ, zero, suc, ◌+◌, ◌-◌, ◌<◌, ◌≤◌, ℤ, ◌<ℤ◌, ◌≤ℤ◌, Bool, true, false, cond, List, [], ◌∷◌, length, set, get_or, replicate, reverse, Option, Some, None, slice_get, refl, sym, ◌∙◌, ap, subst, arith}
-use Rattle.std.specs.Prelude.{Contains, IfSome, IsSome, IsTrue, is_none, is_some, not}
+use Rattle.std.proofs.Common.{◌≡◌, ◌⊎◌, inl, inr, ⊎_elim, ℕ, zero, suc, ◌+◌, ◌-◌, ◌<◌, ◌≤◌, ℤ, ◌<ℤ◌, ◌≤ℤ◌, Bool, true, false, List, [], ◌∷◌, length, set, get_or, replicate, reverse, Option, Some, None, slice_get, refl, sym, ◌∙◌, ap, subst, arith}
+use Rattle.std.specs.Prelude.{Contains, IfSome, IsSome, IsTrue}
 use Rattle.std.proofs.lemmas.Int.{ints}
 use Rattle.std.proofs.lemmas.List.{length-set}
 use Rattle.std.proofs.lemmas.Option.{same_Some, slice_get-get_or}
@@ -86,17 +86,13 @@ module _ (m : Machine) (y : List ℤ) (i : ℕ) (s : Sides) (inside : i < length
 
 -- more is known of one place, or as much
 
-pub known_next : (m : Machine) (r : Require) (n : ℕ) (values : List ℤ) (i : ℕ) (failing : Option ℤ) (low high : ℤ) (e new : Known) → new.sides ≡ e.sides →
-    new.least ≡ cond (is_none failing) low e.least → new.greatest ≡ cond (is_none failing) high e.greatest → IsKnown m r n values i e →
-    (failing ≡ None → new.least ≡ low → new.greatest ≡ high → IsKnown m r n values i new) → IsKnown m r n values i new
-known_next m r n values i None low high e new s l g h tried = tried refl l g
-known_next m r n values i (Some x) low high e new s l g h tried =
+pub known_next : (m : Machine) (r : Require) (n : ℕ) (values : List ℤ) (i : ℕ) (low limit : ℤ) (e new : Known) → new.sides ≡ e.sides →
+    ((new.least ≡ low) × (new.greatest ≡ limit)) ⊎ ((new.least ≡ e.least) × (new.greatest ≡ e.greatest)) → IsKnown m r n values i e →
+    (new.least ≡ low → new.greatest ≡ limit → IsKnown m r n values i new) → IsKnown m r n values i new
+known_next m r n values i low limit e new s (inl g) h tried = tried g.0 g.1
+known_next m r n values i low limit e new s (inr g) h tried =
     λ p is v has from to. ap (λ z. compares r.op r.bound (value_between p n i z v)) s
-    ∙ h p is v has (subst (λ z. z ≤ℤ v) l from) (subst (λ z. v ≤ℤ z) g to)
-
-pub nothing_failed : (failing : Option ℤ) (none : Bool) → is_some failing ≡ not none → none ≡ true → failing ≡ None
-nothing_failed None none e t = refl
-nothing_failed (Some x) none e t = absurd (let z : ◌≡◌ {A = Bool} true false = e ∙ ap not t in cc)
+    ∙ h p is v has (subst (λ z. z ≤ℤ v) g.0 from) (subst (λ z. v ≤ℤ z) g.1 to)
 
 get_set : {A : Type 0} (xs : List A) (i k : ℕ) (y s : A) → slice_get (set xs i y) k ≡ Some s →
     ((k ≡ i) × (s ≡ y)) ⊎ ((k ≡ i → ⊥) × (slice_get xs k ≡ Some s))
@@ -158,16 +154,21 @@ module _ (m : Machine) (r : Require) (y : List ℤ) (old s : Spared) (i : ℕ) (
         (subst (λ n. IsKnown m r n (get_or s.cells.now i []) i e) same_long (spared.each i e there)) v
         (subst (λ z. Contains (get_or z.now i []) v) (sym cells) has) from to
 
-    pub learnt : (t : Spared) (new : Known) (failing : Option ℤ) (low high : ℤ) → t.cells ≡ s.cells → t.letters ≡ s.letters →
-        t.each.items ≡ set s.each.items i new → new.sides ≡ e.sides → new.least ≡ cond (is_none failing) low e.least →
-        new.greatest ≡ cond (is_none failing) high e.greatest →
-        (failing ≡ None → (v : ℤ) → Contains (get_or old.cells.now i []) v → low ≤ℤ v → v ≤ℤ high → MeetsWith (forward_of m) r y i v) → IsSpared m r t
-    learnt t new failing low high same letters change beside least greatest tried =
+    -- a value of the cell is one
+    pub cell_value : (v : ℤ) → Contains (get_or old.cells.now i []) v → IsCellValue v
+    cell_value v has =
+        each_contains WithinLimits (get_or s.cells.now i []) v domain.within (subst (λ z. Contains (get_or z.now i []) v) (sym cells) has)
+
+    pub learnt : (t : Spared) (new : Known) (low limit : ℤ) → t.cells ≡ s.cells → t.letters ≡ s.letters →
+        t.each.items ≡ set s.each.items i new → new.sides ≡ e.sides →
+        ((new.least ≡ low) × (new.greatest ≡ limit)) ⊎ ((new.least ≡ e.least) × (new.greatest ≡ e.greatest)) →
+        ((v : ℤ) → Contains (get_or old.cells.now i []) v → low ≤ℤ v → v ≤ℤ limit → MeetsWith (forward_of m) r y i v) → IsSpared m r t
+    learnt t new low limit same letters change beside either tried =
         put_spared m r s t i new same letters change spared
-        (known_next m r (length s.cells.now) (get_or s.cells.now i []) i failing low high e new beside least greatest (spared.each i e there)
-        (λ none is_low is_high. subst (λ n. IsKnown m r n (get_or s.cells.now i []) i new) (sym same_long)
+        (known_next m r (length s.cells.now) (get_or s.cells.now i []) i low limit e new beside either (spared.each i e there)
+        (λ is_low is_high. subst (λ n. IsKnown m r n (get_or s.cells.now i []) i new) (sym same_long)
         (meets_known m y i e.sides inside few values (sides e there) r (get_or s.cells.now i []) new beside domain
-        (λ v has from to. tried none v (subst (λ z. Contains (get_or z.now i []) v) cells has) (subst (λ z. z ≤ℤ v) is_low from)
+        (λ v has from to. tried v (subst (λ z. Contains (get_or z.now i []) v) cells has) (subst (λ z. z ≤ℤ v) is_low from)
         (subst (λ z. v ≤ℤ z) is_high to)))))
 
 -- when each place was last seen

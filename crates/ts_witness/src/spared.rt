@@ -1,8 +1,7 @@
 //! What is known of the values of each cell, so that it isn't asked again where the runs have come to the same.
 
-ghost use Rattle.std.specs.Prelude.{◌≡◌, ◌↔◌, ◌≤◌, ◌≤ℤ◌, ◌-◌, ℤ, [], Contains, IfOk, IfSome, IsSome, IsSomeAnd, IsTrue};
-ghost use Rattle.std.specs.Prelude.{List, None, Some};
-ghost use Rattle.std.specs.Prelude.{false, get_or, if◌then◌else◌, is_none, length, slice_get};
+ghost use Rattle.std.specs.Prelude.{◌≡◌, ◌↔◌, ◌⊎◌, ◌≤◌, ◌<ℤ◌, ◌≤ℤ◌, ◌-◌, ℤ, [], Contains, IfOk, IfSome, IsSome, IsSomeAnd, IsTrue};
+ghost use Rattle.std.specs.Prelude.{List, Some, get_or, length, slice_get};
 ghost use Rattle.ts_automaton.specs.AutomatonRun.{AreCellValues};
 ghost use Rattle.ts_base.specs.Limits.{IsCellValue, most_cells};
 ghost use Rattle.ts_bound.specs.TermSpans.{automata_of};
@@ -54,24 +53,39 @@ impl Known {
         }
     }
 
-    /// What is known after the values from `low` to `high` were tried up to the first with which the series isn't known
-    /// to meet the requirement.
-    fn and_then(self, low: i64, high: i64, failing: Option<i64>) -> Known
+    /// What is known after the values from `low` to `high` were tried, and met the requirement up to `limit`.
+    fn and_then(self, low: i64, limit: i64, high: i64) -> Known
         ensures sides { result.sides ≡ self.sides }
         ensures time { result.time ≡ self.time }
-        ensures least { result.least ≡ (if is_none failing then low else self.least) }
-        ensures greatest { result.greatest ≡ (if is_none failing then high else self.greatest) }
+        ensures known { ((result.least ≡ low) × (result.greatest ≡ limit))
+            ⊎ ((result.least ≡ self.least) × (result.greatest ≡ self.greatest)) }
     {
-        match failing {
-            None => Known {
-                least: low,
-                greatest: high,
-                ..self
-            },
-            Some(_) => Known {
-                hard: failing,
-                ..self
-            },
+        let hard = if limit < high {
+            Some(limit + 1)
+        } else {
+            self.hard
+        };
+        if limit < low {
+            return Known { hard, ..self };
+        }
+        Known {
+            least: low,
+            greatest: limit,
+            hard,
+            ..self
+        }
+    }
+
+    /// Up to which value, from `low` on, the series is known to meet the requirement: one below `low` where with that
+    /// it isn't.
+    fn reach(&self, low: i64) -> i64
+        requires { IsCellValue low }
+        ensures { (v : ℤ) → low ≤ℤ v → v ≤ℤ result → (self.now.least ≤ℤ v) × (v ≤ℤ self.now.greatest) }
+    {
+        if self.least <= low {
+            self.greatest
+        } else {
+            low - 1
         }
     }
 }
@@ -113,11 +127,11 @@ impl<'a> Spared<'a> {
         })
     }
 
-    /// Whether the series meets the requirement with each value of cell `k`, counted from 1, from `low`, which is one
-    /// of them, to `high`. The machine is that of its term, and can be split. If so, the requirement drops none of
-    /// these values there on any box with the series. It may say no all the same: there may be too many values to be
-    /// tried, or the series doesn't meet the requirement with one that the box hasn't.
-    pub fn keeps_between(
+    /// A number, `high` at most, up to which the series meets the requirement with each value of cell `k`, counted from
+    /// 1, from `low` on, which is one of them. The machine is that of its term, and can be split. The requirement drops
+    /// none of these values there on any box with the series. A greater number may do as well: there may be too many
+    /// values to be tried, or the series doesn't meet the requirement with one that the box hasn't.
+    pub fn keeps_up_to(
         &mut self,
         witness: &mut Witness,
         m: &Machine,
@@ -125,7 +139,7 @@ impl<'a> Spared<'a> {
         k: u32,
         low: i64,
         high: i64,
-    ) -> bool
+    ) -> i64
         requires split { IsSome (pair_of m.now) }
         requires witness { IsWitness m.now witness.old }
         requires few { length (series_of witness.old) ≤ most_cells }
@@ -141,25 +155,27 @@ impl<'a> Spared<'a> {
         ensures same { self.new.cells ≡ self.old.cells }
         ensures spared { IsSpared m.now r.now self.new }
         ensures beside { AreBeside m.now (series_of witness.old) self.new }
-        ensures told { IsTrue result → (v : ℤ) → Contains (get_or self.old.cells.now (k - 1) []) v →
-            low ≤ℤ v → v ≤ℤ high → MeetsWith (forward_of m.now) r.now (series_of witness.old) (k - 1) v }
-        ensures kept { IsTrue result → (v : ℤ) → Contains (get_or self.old.cells.now (k - 1) []) v →
-            low ≤ℤ v → v ≤ℤ high → IsKept (automata_of m.now) r.now (series_of witness.old) k v }
+        ensures most { result ≤ℤ high }
+        ensures told { (v : ℤ) → Contains (get_or self.old.cells.now (k - 1) []) v →
+            low ≤ℤ v → v ≤ℤ result → MeetsWith (forward_of m.now) r.now (series_of witness.old) (k - 1) v }
+        ensures kept { (v : ℤ) → Contains (get_or self.old.cells.now (k - 1) []) v →
+            low ≤ℤ v → v ≤ℤ result → IsKept (automata_of m.now) r.now (series_of witness.old) k v }
     {
         let i = k as usize - 1;
         self.bring_beside(witness, m, k);
         let cells = self.cells;
         let known = &self.each[i];
-        if known.least <= low && high <= known.greatest {
-            return true;
+        let reach = known.reach(low);
+        if high <= reach {
+            return high;
         }
         if is_between(known.hard, low, high) {
-            return false;
+            return reach;
         }
         let letters = self.letters;
-        let failing = first_failing(witness, m, r, k, &cells[i], letters, low, high);
-        self.each[i] = known.and_then(low, high, failing);
-        failing.is_none()
+        let limit = meets_up_to(witness, m, r, k, &cells[i], letters, low, high);
+        self.each[i] = known.and_then(low, limit, high);
+        limit
     }
 
     /// Forgets what is known of cell `k`, counted from 1, if the runs have something else beside it now.
@@ -211,11 +227,11 @@ fn is_between(v: Option<i64>, low: i64, high: i64) -> bool
     }
 }
 
-/// The first value of a domain from `low`, which is one of them, to `high` with which, at place `k` of the series,
-/// counted from 1, this doesn't meet the requirement, or that is one too many to be tried. Where the steps of the
-/// machine are by letters alone, of values that compare in the same way with the cells beside the place only one is
-/// tried.
-fn first_failing(
+/// A number, `high` at most, up to which the series meets the requirement with each value of the domain at place `k`,
+/// counted from 1, from `low` on, which is one of them: it ends before the first with which it doesn't, or that is one
+/// too many to be tried. Where the steps of the machine are by letters alone, of values that compare in the same way
+/// with the cells beside the place only one is tried.
+fn meets_up_to(
     witness: &mut Witness,
     m: &Machine,
     r: &Require,
@@ -224,7 +240,7 @@ fn first_failing(
     letters: bool,
     low: i64,
     high: i64,
-) -> Option<i64>
+) -> i64
     requires split { IsSome (pair_of m.now) }
     requires witness { IsWitness m.now witness.old }
     requires few { length (series_of witness.old) ≤ most_cells }
@@ -235,7 +251,8 @@ fn first_failing(
     requires there { Contains domain.now low }
     ensures witness { IsWitness m.now witness.new }
     ensures series { series_of witness.new ≡ series_of witness.old }
-    ensures none { result ≡ None → (v : ℤ) → Contains domain.now v → low ≤ℤ v → v ≤ℤ high →
+    ensures most { result ≤ℤ high }
+    ensures met { (v : ℤ) → Contains domain.now v → low ≤ℤ v → v ≤ℤ result →
         MeetsWith (forward_of m.now) r.now (series_of witness.old) (k - 1) v }
 {
     let count = domain.size();
@@ -244,17 +261,26 @@ fn first_failing(
     for i in from..count {
         let v = domain.nth(i);
         if v > high {
-            return None;
+            return high;
         }
+        let below = one_below(v);
         if i - from >= MOST_TRIED {
-            return Some(v);
+            return below;
         }
         if !meets_with(witness, m, r, k, v, like) {
-            return Some(v);
+            return below;
         }
         like = some_if(letters, v);
     }
-    None
+    high
+}
+
+/// The number before a value of a cell.
+fn one_below(v: i64) -> i64
+    requires { IsCellValue v }
+    ensures { result <ℤ v }
+{
+    v - 1
 }
 
 /// The value, where the steps are by letters alone.

@@ -12,6 +12,7 @@ ghost use Rattle.ts_model.specs.declared.model.Require.{Require};
 use std::alloc::Global;
 use std::slice;
 use ts_base::Memory;
+use ts_base::limits::CELL_VALUE;
 use ts_domain::Boxed;
 use ts_filter::{AllTables, KeptCells, Removal};
 use ts_glue::Machine;
@@ -26,7 +27,7 @@ fn keep_single(kept: &mut KeptCells, k: u32, cells: &Boxed)
     ensures kept { (requirements : List Require) (s : Spans) → AreKept requirements s cells.now.present kept.new }
 {
     if cells.cell(k).size() < 2 {
-        kept.keep_cell(0, k);
+        kept.keep_cell(0, k, CELL_VALUE);
     }
 }
 

@@ -1,24 +1,33 @@
 use mir.Val.{SFits}
-use Rattle.std.proofs.Common.{w64, length, slice_get, drop, sym, ap, ◌∙◌, subst, rules, arith, to_z, of_z, ◌≤◌, ◌+◌, Some}
+use Rattle.std.proofs.Common.{w64, length, slice_get, drop, sym, ap, ◌∙◌, subst, rules, arith, to_z, of_z, ◌≡◌, ◌≤◌, ◌≤ℤ◌, ◌+◌, Some}
 use Rattle.std.proofs.lemmas.Int.{to_z-of_z}
 use Rattle.std.proofs.lemmas.List.{drop_all}
-use Rattle.ts_domain.specs.Values.{IsRising}
+use Rattle.std.specs.List.{AllByRecursion}
+use Rattle.ts_domain.specs.Values.{IsRising, WithinLimits}
 use Rattle.ts_filter.specs.Boxes.{values_at}
 use Rattle.ts_filter.specs.Drops.{IsFirstOf}
 use Rattle.ts_filter.specs.TermDrops.{IsDropAt}
 use Rattle.ts_filter.proofs.CellLaws.{left_is}
-use Rattle.ts_filter.proofs.DropLaws.{all_left, drop_found_as, fewer_left_as, left_met, none_left}
+use Rattle.ts_filter.proofs.DropLaws.{drop_found_as, fewer_left_as, left_met, none_left}
+use Rattle.ts_filter.proofs.SparedLaws.{left_above}
 use Rattle.ts_filter.proofs.drops.drop_in_cell.Goals as goal
 
 pub loop-i-init : goal.loop-i-init
 loop-i-init c =
     let t = c.args.hulls.now in let own = c.args.own in let all = values_at t.cell t.cells in
     let long = ap length c.values-values.ensures.values in let to = c.settled_to-i.ensures.to in let size = c.size-2.ensures.size in
-    let within : c.settled_to-i.result ≤ length all = omega (arith, long, to, size) in (
+    let within : c.settled_to-i.result ≤ length all = omega (arith, long, to, size) in
+    let many : 2 ≤ length all = search rules in
+    let above = c.count_up_to-above.ensures.to in (
       within,
-      left_met own.all.now own.term t.machine t.cells t.cell t.ends c.args.asked c.requires.asked.excludes 0 c.settled_to-i.result (omega arith) within
-          c.settled_to-i.ensures.met
-          (all_left own.all.now own.term t.machine t.cells t.cell (subst IsRising c.values-values.ensures.values c.size-2.ensures.domain.rising)),
+      left_met own.all.now own.term t.machine t.cells t.cell t.ends c.args.asked c.requires.asked.excludes c.count_up_to-above.result c.settled_to-i.result
+          c.settled_to-i.ensures.from within c.settled_to-i.ensures.met
+          (left_above own.all.now own.term t.machine t.cells t.cell c.args.limit c.requires.spared c.requires.usable many
+          (subst IsRising c.values-values.ensures.values c.size-2.ensures.domain.rising)
+          (subst (AllByRecursion WithinLimits) c.values-values.ensures.values c.size-2.ensures.domain.within) c.count_up_to-above.result
+          (omega (arith, long, above))
+          (λ i v below at. subst (λ z. v ≤ℤ z) (to_z-of_z w64 c.args.limit c.ranges.limit)
+          (c.count_up_to-above.ensures.below i v below (subst (λ l. slice_get l i ≡ Some v) (sym c.values-values.ensures.values) at)))),
     )
 
 pub returns-in-Some : goal.returns-in-Some

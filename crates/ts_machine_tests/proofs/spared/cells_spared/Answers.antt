@@ -12,6 +12,6 @@ loop-k-init c = record {
   few = omega arith;
 }
 
-pub keeps_between-keeps-requires-clause-beside : goal.keeps_between-keeps-requires-clause-beside
-keeps_between-keeps-requires-clause-beside c =
+pub keeps_up_to-limit-requires-clause-beside : goal.keeps_up_to-limit-requires-clause-beside
+keeps_up_to-limit-requires-clause-beside c =
     subst (λ y. AreBeside c.args.m.now y c.loop-k.spared) (sym c.loop-k.invariant.series) c.loop-k.invariant.beside

@@ -1,6 +1,9 @@
-use Rattle.std.proofs.Common.{option_map, refl, sym, ◌∙◌, arith}
+use Rattle.std.proofs.Common.{rules, ◌+◌, ◌≤ℤ◌, option_map, refl, sym, subst, arith, w64}
+use Rattle.std.proofs.lemmas.Int.{ints, to_z-of_z}
+use Rattle.ts_base.specs.Limits.{greatest_value}
+use Rattle.ts_filter.specs.KeptCells.{IsSparedAt}
 use Rattle.ts_filter.proofs.DropLaws.{none_behind_last, none_up_to_first}
-use Rattle.ts_filter.proofs.SparedLaws.{none_up_to_next}
+use Rattle.ts_filter.proofs.SparedLaws.{none_up_to_next, spared_at}
 use Rattle.ts_filter.proofs.box_tables.BoxTables.drop_in_cells.Goals as goal
 
 pub loop-before-init : goal.loop-before-init
@@ -18,10 +21,21 @@ returns-clause-found c =
     none_behind_last own.all.now own.term a b c.args.outside c.asked_for_drops-from.result.1 c.args.last _ c.loop-before.before c.requires.outside
     (λ k u may. (all k u may).1) c.min-before-end.ensures (omega (arith, c.loop-before-test.false)) c.loop-before.invariant.1
 
-pub loop-before-preserved-then-is_spared : goal.loop-before-preserved-then-is_spared
-loop-before-preserved-then-is_spared c =
+pub drop_at-requires-clause-spared : goal.drop_at-requires-clause-spared
+drop_at-requires-clause-spared c =
+    let b = c.args.cells.now.present in let own = c.args.own in
+    let limit = c.spared_to-limit.result in
+    subst (IsSparedAt own.all.now own.term c.loop-before.self.machine b (c.loop-before.before + 1)) (sym (to_z-of_z w64 limit (search rules)))
+    (subst (λ a. IsSparedAt own.all.now own.term a b (c.loop-before.before + 1) limit) (sym c.loop-before.invariant.0.machine)
+    (spared_at own.all.now own.term c.args.self.now.machine b (option_map (λ t. t.now) c.args.kept) c.requires.kept (c.loop-before.before + 1)
+    limit (omega arith) c.spared_to-limit.ensures))
+
+pub loop-before-preserved-then-limit-ge-CELL_VALUE : goal.loop-before-preserved-then-limit-ge-CELL_VALUE
+loop-before-preserved-then-limit-ge-CELL_VALUE c =
+    let all = c.if-limit-ge-CELL_VALUE.true in
     let a = c.args.self.now.machine in let b = c.args.cells.now.present in let own = c.args.own in (
       c.loop-before.invariant.0,
-      none_up_to_next own.all.now own.term a b (option_map (λ t. t.now) c.args.kept) c.requires.kept c.loop-before.before c.loop-before.invariant.1
-          (sym c.is_spared.ensures ∙ c.if-is_spared.true),
+      none_up_to_next own.all.now own.term a b (option_map (λ t. t.now) c.args.kept) c.requires.kept c.loop-before.before c.spared_to-limit.result
+          c.asked_for_drops-from.ensures.domains c.loop-before.invariant.1 c.spared_to-limit.ensures
+          (subst (λ z. greatest_value ≤ℤ z) (to_z-of_z w64 c.spared_to-limit.result (search rules)) (omega (arith, ints, all))),
     )

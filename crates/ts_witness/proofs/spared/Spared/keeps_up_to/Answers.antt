@@ -2,13 +2,14 @@ use Rattle.std.proofs.Common.{rules, ◌≡◌, ◌≤ℤ◌, ◌<◌, ◌-◌, 
 use Rattle.std.specs.Prelude.{Contains}
 use Rattle.std.proofs.lemmas.Int.{ints, to_z-of_z}
 use Rattle.std.proofs.lemmas.List.{get_or_default}
+use Rattle.ts_base.specs.Limits.{IsCellValue}
 use Rattle.ts_bound.specs.TermSpans.{automata_of}
 use Rattle.ts_glue.specs.Machines.{forward_of}
 use Rattle.ts_witness.specs.KnownValues.{MeetsWith}
 use Rattle.ts_witness.specs.Witnesses.{series_of}
 use Rattle.ts_witness.proofs.Alive.{told_kept}
-use Rattle.ts_witness.proofs.KnownValues.{entry_there, learnt, learnt_beside, nothing_failed, told_known}
-use Rattle.ts_witness.proofs.spared.Spared.keeps_between.Goals as goal
+use Rattle.ts_witness.proofs.KnownValues.{cell_value, entry_there, learnt, learnt_beside, told_known}
+use Rattle.ts_witness.proofs.spared.Spared.keeps_up_to.Goals as goal
 
 pub index-known-requires : goal.index-known-requires
 index-known-requires c =
@@ -26,23 +27,41 @@ index_mut-requires c =
     let as_long : length s.cells.now ≡ length c.args.self.now.cells.now = ap (λ z. length z.now) c.bring_beside.ensures.same in
     let long = c.requires.count in let to = c.requires.to in let from = c.requires.from in omega (arith, size, count, as_long, long, to, from)
 
-pub first_failing-failing-requires-clause-letters : goal.first_failing-failing-requires-clause-letters
-first_failing-failing-requires-clause-letters c = (c.bring_beside.ensures.spared c.args.r.now c.requires.spared).letters
+pub meets_up_to-limit-requires-clause-letters : goal.meets_up_to-limit-requires-clause-letters
+meets_up_to-limit-requires-clause-letters c = (c.bring_beside.ensures.spared c.args.r.now c.requires.spared).letters
 
-pub returns-then-high-known-clause-spared : goal.returns-then-high-known-clause-spared
-returns-then-high-known-clause-spared c = c.bring_beside.ensures.spared c.args.r.now c.requires.spared
+pub returns-then-high-reach-clause-spared : goal.returns-then-high-reach-clause-spared
+returns-then-high-reach-clause-spared c = c.bring_beside.ensures.spared c.args.r.now c.requires.spared
 
 pub returns-then-is_between-clause-spared : goal.returns-then-is_between-clause-spared
 returns-then-is_between-clause-spared c = c.bring_beside.ensures.spared c.args.r.now c.requires.spared
 
-pub returns-then-high-known-clause-told : goal.returns-then-high-known-clause-told
-returns-then-high-known-clause-told c =
+pub reach-reach-requires : goal.reach-reach-requires
+reach-reach-requires c =
     let to = c.requires.to in let from = c.requires.from in
-    let low = c.if-known-low.true in let high = c.if-high-known.true in
-    λ t v has least greatest. told_known c.args.m.now c.args.r.now (series_of c.args.witness.now) c.args.self.now c.bring_beside.new.self (c.args.k - 1)
+    subst IsCellValue (sym (to_z-of_z w64 c.args.low c.ranges.low))
+    (cell_value c.args.m.now c.args.r.now (series_of c.args.witness.now) c.args.self.now c.bring_beside.new.self (c.args.k - 1)
     c.index-known.result.now c.bring_beside.ensures.same (c.bring_beside.ensures.spared c.args.r.now c.requires.spared) c.requires.count
-    (omega (arith, to, from)) c.requires.few c.requires.cells c.requires.split c.index-known.ensures c.bring_beside.ensures.here v has
-    (omega (arith, ints, low, least)) (omega (arith, ints, high, greatest))
+    (omega (arith, to, from)) c.requires.few c.requires.cells c.requires.split c.index-known.ensures c.bring_beside.ensures.here c.args.low c.requires.there)
+
+pub returns-then-is_between-clause-told : goal.returns-then-is_between-clause-told
+returns-then-is_between-clause-told c =
+    let to = c.requires.to in let from = c.requires.from in
+    λ v has least up.
+    let within = c.reach-reach.ensures v (subst (λ z. z ≤ℤ v) (sym (to_z-of_z w64 c.args.low c.ranges.low)) least)
+    (subst (λ z. v ≤ℤ z) (to_z-of_z w64 c.reach-reach.result (search rules)) up) in
+    told_known c.args.m.now c.args.r.now (series_of c.args.witness.now) c.args.self.now c.bring_beside.new.self (c.args.k - 1)
+    c.index-known.result.now c.bring_beside.ensures.same (c.bring_beside.ensures.spared c.args.r.now c.requires.spared) c.requires.count
+    (omega (arith, to, from)) c.requires.few c.requires.cells c.requires.split c.index-known.ensures c.bring_beside.ensures.here v has within.0 within.1
+
+pub returns-then-high-reach-clause-told : goal.returns-then-high-reach-clause-told
+returns-then-high-reach-clause-told c =
+    let to = c.requires.to in let from = c.requires.from in let high = c.if-high-reach.true in
+    λ v has least greatest.
+    let within = c.reach-reach.ensures v (subst (λ z. z ≤ℤ v) (sym (to_z-of_z w64 c.args.low c.ranges.low)) least) (omega (arith, ints, high, greatest)) in
+    told_known c.args.m.now c.args.r.now (series_of c.args.witness.now) c.args.self.now c.bring_beside.new.self (c.args.k - 1)
+    c.index-known.result.now c.bring_beside.ensures.same (c.bring_beside.ensures.spared c.args.r.now c.requires.spared) c.requires.count
+    (omega (arith, to, from)) c.requires.few c.requires.cells c.requires.split c.index-known.ensures c.bring_beside.ensures.here v has within.0 within.1
 
 pub returns-clause-told : goal.returns-clause-told
 returns-clause-told c =
@@ -53,10 +72,11 @@ returns-clause-told c =
     let as_long : length s.cells.now ≡ length c.args.self.now.cells.now = ap (λ z. length z.now) same in
     let inside : i < length s.cells.now = omega (arith, as_long, long, to, from) in
     let domain = get_or_default s.cells.now i [] c.index-cells-i.result inside ∙ sym c.index-cells-i.is in
-    λ t v has from to. subst (λ y. MeetsWith (forward_of c.args.m.now) c.args.r.now y i v) c.bring_beside.ensures.series
-    (c.first_failing-failing.ensures.none (nothing_failed c.first_failing-failing.result c.is_none.result c.is_none.ensures t) v
+    λ v has from to. subst (λ y. MeetsWith (forward_of c.args.m.now) c.args.r.now y i v) c.bring_beside.ensures.series
+    (c.meets_up_to-limit.ensures.met v
     (subst (λ d. Contains d v) domain (subst (λ z. Contains (get_or z.now i []) v) (sym same) has))
-    (subst (λ z. z ≤ℤ v) (sym (to_z-of_z w64 c.args.low c.ranges.low)) from) (subst (λ z. v ≤ℤ z) (sym (to_z-of_z w64 c.args.high c.ranges.high)) to))
+    (subst (λ z. z ≤ℤ v) (sym (to_z-of_z w64 c.args.low c.ranges.low)) from)
+    (subst (λ z. v ≤ℤ z) (to_z-of_z w64 c.meets_up_to-limit.result (search rules)) to))
 
 pub returns-clause-spared : goal.returns-clause-spared
 returns-clause-spared c =
@@ -64,17 +84,18 @@ returns-clause-spared c =
     let i = c.args.k - 1 in
     let same = c.bring_beside.ensures.same in
     let low = to_z w64 (of_z w64 c.args.low) in
-    let high = to_z w64 (of_z w64 c.args.high) in
+    let limit = to_z w64 (of_z w64 c.meets_up_to-limit.result) in
     let long = c.requires.count in let to = c.requires.to in let from = c.requires.from in
     let as_long : length s.cells.now ≡ length c.args.self.now.cells.now = ap (λ z. length z.now) same in
     let inside : i < length s.cells.now = omega (arith, as_long, long, to, from) in
     let domain = get_or_default s.cells.now i [] c.index-cells-i.result inside ∙ sym c.index-cells-i.is in
     learnt c.args.m.now c.args.r.now (series_of c.args.witness.now) c.args.self.now s i c.index-known.result.now same
     (c.bring_beside.ensures.spared c.args.r.now c.requires.spared) c.requires.count (omega (arith, to, from)) c.requires.few c.requires.cells
-    c.requires.split c.index-known.ensures c.bring_beside.ensures.here _ c.and_then.result c.first_failing-failing.result low high refl refl refl
-    c.and_then.ensures.sides c.and_then.ensures.least c.and_then.ensures.greatest
-    (λ none v has from to. subst (λ y. MeetsWith (forward_of c.args.m.now) c.args.r.now y i v) c.bring_beside.ensures.series
-    (c.first_failing-failing.ensures.none none v (subst (λ d. Contains d v) domain (subst (λ z. Contains (get_or z.now i []) v) (sym same) has)) from to))
+    c.requires.split c.index-known.ensures c.bring_beside.ensures.here _ c.and_then.result low limit refl refl refl c.and_then.ensures.sides
+    c.and_then.ensures.known
+    (λ v has from to. subst (λ y. MeetsWith (forward_of c.args.m.now) c.args.r.now y i v) c.bring_beside.ensures.series
+    (c.meets_up_to-limit.ensures.met v (subst (λ d. Contains d v) domain (subst (λ z. Contains (get_or z.now i []) v) (sym same) has)) from
+    (subst (λ z. v ≤ℤ z) (to_z-of_z w64 c.meets_up_to-limit.result (search rules)) to)))
 
 pub returns-clause-beside : goal.returns-clause-beside
 returns-clause-beside c =
@@ -90,12 +111,17 @@ returns-clause-beside c =
 
 -- with what is told, the values are kept
 
-pub returns-then-high-known-clause-kept : goal.returns-then-high-known-clause-kept
-returns-then-high-known-clause-kept c =
-    λ t v has from to. told_kept (automata_of c.args.m.now) c.args.r.now (series_of c.args.witness.now) c.args.k v true
-    (sym (returns-then-high-known-clause-told c t v has from to)) refl
+pub returns-then-high-reach-clause-kept : goal.returns-then-high-reach-clause-kept
+returns-then-high-reach-clause-kept c =
+    λ v has from to. told_kept (automata_of c.args.m.now) c.args.r.now (series_of c.args.witness.now) c.args.k v true
+    (sym (returns-then-high-reach-clause-told c v has from to)) refl
+
+pub returns-then-is_between-clause-kept : goal.returns-then-is_between-clause-kept
+returns-then-is_between-clause-kept c =
+    λ v has from to. told_kept (automata_of c.args.m.now) c.args.r.now (series_of c.args.witness.now) c.args.k v true
+    (sym (returns-then-is_between-clause-told c v has from to)) refl
 
 pub returns-clause-kept : goal.returns-clause-kept
 returns-clause-kept c =
-    λ t v has from to. told_kept (automata_of c.args.m.now) c.args.r.now (series_of c.args.witness.now) c.args.k v true
-    (sym (returns-clause-told c t v has from to)) refl
+    λ v has from to. told_kept (automata_of c.args.m.now) c.args.r.now (series_of c.args.witness.now) c.args.k v true
+    (sym (returns-clause-told c v has from to)) refl

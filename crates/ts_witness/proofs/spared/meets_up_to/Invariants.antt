@@ -4,7 +4,7 @@ use Rattle.ts_glue.specs.Machines.{forward_of}
 use Rattle.ts_witness.specs.KnownValues.{IsLike}
 use Rattle.ts_witness.specs.Witnesses.{IsWitness, series_of}
 use Rattle.ts_witness.proofs.KnownValues.{AreTried}
-use Rattle.ts_witness.proofs.spared.first_failing.Given as goal
+use Rattle.ts_witness.proofs.spared.meets_up_to.Given as goal
 
 -- with each value from `low` on that stands before place i the series meets
 abbrev pub invariant-loop-i : goal.invariant-loop-i

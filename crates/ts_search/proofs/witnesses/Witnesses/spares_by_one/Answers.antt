@@ -1,13 +1,13 @@
-use Rattle.std.proofs.Common.{rules, ◌≡◌, ◌<◌, ◌≤ℤ◌, ◌-◌, ◌∙◌, refl, sym, subst, length, vec_len, arith, w64, to_z, of_z}
+use Rattle.std.proofs.Common.{rules, ◌≡◌, ◌<◌, ◌<ℤ◌, ◌≤ℤ◌, ◌+◌, ◌-◌, ◌∙◌, refl, sym, subst, length, vec_len, arith, w64, to_z, of_z}
 use Rattle.std.specs.Prelude.{Contains}
 use Rattle.std.specs.Vec.{with_item}
-use Rattle.std.proofs.lemmas.Int.{to_z-of_z}
+use Rattle.std.proofs.lemmas.Int.{ints, to_z-of_z}
 use Rattle.std.proofs.lemmas.Option.{slice_get_within}
 use Rattle.ts_filter.specs.Boxes.{values_at}
 use Rattle.ts_search.specs.declared.witnesses.Witnesses.{Witnesses}
-use Rattle.ts_search.proofs.Marks.{met_after, met_there, shown_after, spared_there, spares_count, spares_few, spares_from, spares_split, spares_to, value_known}
+use Rattle.ts_search.proofs.Marks.{met_after, met_there, none_of_other, none_under, shown_after, spared_there, spares_count, spares_few, spares_from, spares_split, spares_to, value_known}
 use Rattle.ts_search.proofs.Witnessed.{found}
-use Rattle.ts_search.proofs.witnesses.Witnesses.spares_one.Goals as goal
+use Rattle.ts_search.proofs.witnesses.Witnesses.spares_by_one.Goals as goal
 
 pub index_mut-requires : goal.index_mut-requires
 index_mut-requires c =
@@ -18,8 +18,8 @@ index_mut-requires c =
     let count : vec_len w.each ≡ length w.each.items = search rules in
     let below = slice_get_within w.each.items c.args.i s.0 s.1 in omega (arith, below, count)
 
-pub spares-requires-clause-split : goal.spares-requires-clause-split
-spares-requires-clause-split c =
+pub spares_up_to-requires-clause-split : goal.spares_up_to-requires-clause-split
+spares_up_to-requires-clause-split c =
     let q = c.args.problem.now in let w = c.args.self.now in let b = c.args.cells.now.present in
     let r = c.index-r.result.now in
     let is = found q.model.now.requirements.items c.args.i r c.index-r.ensures c.requires.place in
@@ -28,8 +28,8 @@ spares-requires-clause-split c =
     let there = found w.each.items c.args.i s c.index_mut.ensures.value (slice_get_within w.each.items c.args.i some.0 some.1) in
     spares_split q c.requires.posed w b c.requires.part c.requires.shown c.args.i s r there is c.args.at c.if-r-at.false c.requires.spare c.requires.cell
 
-pub spares-requires-clause-held : goal.spares-requires-clause-held
-spares-requires-clause-held c =
+pub spares_up_to-requires-clause-held : goal.spares_up_to-requires-clause-held
+spares_up_to-requires-clause-held c =
     let q = c.args.problem.now in let w = c.args.self.now in let b = c.args.cells.now.present in
     let r = c.index-r.result.now in
     let is = found q.model.now.requirements.items c.args.i r c.index-r.ensures c.requires.place in
@@ -38,8 +38,8 @@ spares-requires-clause-held c =
     let there = found w.each.items c.args.i s c.index_mut.ensures.value (slice_get_within w.each.items c.args.i some.0 some.1) in
     c.requires.shown.held.each c.args.i s r there is
 
-pub spares-requires-clause-few : goal.spares-requires-clause-few
-spares-requires-clause-few c =
+pub spares_up_to-requires-clause-few : goal.spares_up_to-requires-clause-few
+spares_up_to-requires-clause-few c =
     let q = c.args.problem.now in let w = c.args.self.now in let b = c.args.cells.now.present in
     let r = c.index-r.result.now in
     let is = found q.model.now.requirements.items c.args.i r c.index-r.ensures c.requires.place in
@@ -48,8 +48,8 @@ spares-requires-clause-few c =
     let there = found w.each.items c.args.i s c.index_mut.ensures.value (slice_get_within w.each.items c.args.i some.0 some.1) in
     spares_few q c.requires.posed w b c.requires.part c.requires.shown c.args.i s r there is c.args.at c.if-r-at.false c.requires.spare c.requires.cell
 
-pub spares-requires-clause-count : goal.spares-requires-clause-count
-spares-requires-clause-count c =
+pub spares_up_to-requires-clause-count : goal.spares_up_to-requires-clause-count
+spares_up_to-requires-clause-count c =
     let q = c.args.problem.now in let w = c.args.self.now in let b = c.args.cells.now.present in
     let r = c.index-r.result.now in
     let is = found q.model.now.requirements.items c.args.i r c.index-r.ensures c.requires.place in
@@ -58,8 +58,8 @@ spares-requires-clause-count c =
     let there = found w.each.items c.args.i s c.index_mut.ensures.value (slice_get_within w.each.items c.args.i some.0 some.1) in
     spares_count q c.requires.posed w b c.requires.part c.requires.shown c.args.i s r there is c.args.at c.if-r-at.false c.requires.spare c.requires.cell
 
-pub spares-requires-clause-from : goal.spares-requires-clause-from
-spares-requires-clause-from c =
+pub spares_up_to-requires-clause-from : goal.spares_up_to-requires-clause-from
+spares_up_to-requires-clause-from c =
     let q = c.args.problem.now in let w = c.args.self.now in let b = c.args.cells.now.present in
     let r = c.index-r.result.now in
     let is = found q.model.now.requirements.items c.args.i r c.index-r.ensures c.requires.place in
@@ -68,8 +68,8 @@ spares-requires-clause-from c =
     let there = found w.each.items c.args.i s c.index_mut.ensures.value (slice_get_within w.each.items c.args.i some.0 some.1) in
     spares_from q c.requires.posed w b c.requires.part c.requires.shown c.args.i s r there is c.args.at c.if-r-at.false c.requires.spare c.requires.cell
 
-pub spares-requires-clause-to : goal.spares-requires-clause-to
-spares-requires-clause-to c =
+pub spares_up_to-requires-clause-to : goal.spares_up_to-requires-clause-to
+spares_up_to-requires-clause-to c =
     let q = c.args.problem.now in let w = c.args.self.now in let b = c.args.cells.now.present in
     let r = c.index-r.result.now in
     let is = found q.model.now.requirements.items c.args.i r c.index-r.ensures c.requires.place in
@@ -79,8 +79,8 @@ spares-requires-clause-to c =
     spares_to q c.requires.posed w b c.requires.part c.requires.shown c.args.i s r there is c.args.at c.if-r-at.false c.requires.spare c.requires.cell
 
 -- `low` is a value of the cell, so one of the model's
-pub spares-requires-clause-there : goal.spares-requires-clause-there
-spares-requires-clause-there c =
+pub spares_up_to-requires-clause-there : goal.spares_up_to-requires-clause-there
+spares_up_to-requires-clause-there c =
     let q = c.args.problem.now in let w = c.args.self.now in let b = c.args.cells.now.present in
     let r = c.index-r.result.now in
     let is = found q.model.now.requirements.items c.args.i r c.index-r.ensures c.requires.place in
@@ -100,7 +100,8 @@ returns-clause-shown c =
     let s = c.index_mut.result.now in
     let there = found w.each.items c.args.i s c.index_mut.ensures.value (slice_get_within w.each.items c.args.i some.0 some.1) in
     shown_after q c.requires.posed w b c.requires.part c.requires.shown c.args.i s r there is c.args.at c.if-r-at.false c.requires.spare c.requires.cell
-    c.spares.new.self _ refl refl refl c.spares.ensures.machine c.spares.ensures.cells c.spares.ensures.held c.spares.ensures.series c.spares.ensures.met
+    c.spares_up_to.new.self _ refl refl refl c.spares_up_to.ensures.machine c.spares_up_to.ensures.cells c.spares_up_to.ensures.held
+    c.spares_up_to.ensures.series c.spares_up_to.ensures.met
 
 pub returns-clause-met : goal.returns-clause-met
 returns-clause-met c =
@@ -110,9 +111,10 @@ returns-clause-met c =
     let some = met_there q c.requires.posed w b c.requires.part c.requires.shown c.args.at.term c.args.i r c.requires.met is c.if-r-at.false in
     let s = c.index_mut.result.now in
     let there = found w.each.items c.args.i s c.index_mut.ensures.value (slice_get_within w.each.items c.args.i some.0 some.1) in
-    let after : Witnesses = record { each = with_item w.each c.args.i c.spares.new.self; kept = w.kept; ends = w.ends } in
+    let after : Witnesses = record { each = with_item w.each c.args.i c.spares_up_to.new.self; kept = w.kept; ends = w.ends } in
     met_after q c.requires.posed w b c.requires.part c.requires.shown c.args.i s r there is c.args.at c.if-r-at.false c.requires.spare c.requires.cell
-    c.spares.new.self after refl refl refl c.spares.ensures.machine c.spares.ensures.cells c.spares.ensures.held c.spares.ensures.series c.spares.ensures.met
+    c.spares_up_to.new.self after refl refl refl c.spares_up_to.ensures.machine c.spares_up_to.ensures.cells c.spares_up_to.ensures.held
+    c.spares_up_to.ensures.series c.spares_up_to.ensures.met
     c.args.at.term c.requires.met
 
 pub returns-clause-spared : goal.returns-clause-spared
@@ -123,8 +125,22 @@ returns-clause-spared c =
     let some = met_there q c.requires.posed w b c.requires.part c.requires.shown c.args.at.term c.args.i r c.requires.met is c.if-r-at.false in
     let s = c.index_mut.result.now in
     let there = found w.each.items c.args.i s c.index_mut.ensures.value (slice_get_within w.each.items c.args.i some.0 some.1) in
-    λ t u require on v.
+    λ u require on v up.
     spared_there q c.requires.posed w b c.requires.part c.requires.shown c.args.i s r there is c.args.at c.if-r-at.false c.requires.spare c.requires.cell
-    c.args.values.low c.args.values.high c.requires.ends.all
-    (λ v has low high. c.spares.ensures.kept t v has (subst (λ z. z ≤ℤ v) (sym (to_z-of_z w64 c.args.values.low (search rules))) low)
-    (subst (λ z. v ≤ℤ z) (sym (to_z-of_z w64 c.args.values.high (search rules))) high)) v
+    c.args.values.low c.spares_up_to.result (λ v has. (c.requires.ends.all v has).0)
+    (λ v has low up. c.spares_up_to.ensures.kept v has (subst (λ z. z ≤ℤ v) (sym (to_z-of_z w64 c.args.values.low (search rules))) low) up) v
+    (subst (λ z. v ≤ℤ z) (to_z-of_z w64 c.spares_up_to.result (search rules)) up)
+
+-- of another term, or where no value is left
+
+pub returns-then-r-at-clause-spared : goal.returns-then-r-at-clause-spared
+returns-then-r-at-clause-spared c =
+    let q = c.args.problem.now in
+    let is = found q.model.now.requirements.items c.args.i c.index-r.result.now c.index-r.ensures c.requires.place in
+    λ u require on v up drop. none_of_other q c.args.at.term c.args.i c.index-r.result.now u is c.if-r-at.true require on
+
+pub returns-then-limit-values-clause-spared : goal.returns-then-limit-values-clause-spared
+returns-then-limit-values-clause-spared c =
+    let less = c.if-limit-values.true in let low = to_z-of_z w64 c.args.values.low (search rules) in
+    λ u require on v up drop. none_under c.args.problem.now c.args.cells.now.present c.args.at.cell (c.args.i + 1) c.args.values
+    (to_z w64 (of_z w64 c.args.limit)) v c.requires.ends (omega (arith, ints, less, low)) up drop
