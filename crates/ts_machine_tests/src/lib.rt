@@ -1,27 +1,15 @@
-//! The tests of automata, of how they are glued, of boxes, of their hulls and spans, and of what spans exclude.
+//! The tests of texts of automata, of hulls and spans of boxes, and of what they exclude.
 //!
 //! Why tests stand in crates of their own is told in `ts_pattern_tests`. Each module is named for what it tries, and
 //! each expected value comes from outside the program: from a definition worked out by hand, or by enumeration.
 #![tactic(auto)]
 
 #[cfg(test)]
-mod automata;
-#[cfg(test)]
 mod automaton_texts;
-#[cfg(test)]
-mod boxes;
 #[cfg(test)]
 mod decorated;
 #[cfg(test)]
-mod filters;
-#[cfg(test)]
-mod first_values;
-#[cfg(test)]
-mod glued;
-#[cfg(test)]
 mod glued_values;
-#[cfg(test)]
-mod last_values;
 #[cfg(test)]
 mod met;
 #[cfg(test)]
@@ -29,12 +17,4 @@ mod met_one_end;
 #[cfg(test)]
 mod packed_rows;
 #[cfg(test)]
-mod ranges;
-#[cfg(test)]
-mod spared;
-#[cfg(test)]
-mod terms;
-#[cfg(test)]
 mod told;
-#[cfg(test)]
-mod waiting;

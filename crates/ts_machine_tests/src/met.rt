@@ -10,7 +10,6 @@ ghost use Rattle.ts_meet.specs.Meets.{HasPlace};
 ghost use Rattle.ts_sweep.specs.Sides.{BothEnds, has_wide, lane_count, sides};
 
 use super::packed_rows::{row_at, whole_row};
-use super::terms::{PAIRS, term_of};
 use super::told::{cells_of, looks_in, spans_at};
 use std::alloc::Global;
 use std::test::Fail;
@@ -20,7 +19,7 @@ use ts_compile::compile_term;
 use ts_domain::Boxed;
 use ts_glue::Machine;
 use ts_meet::{Asked, Joints, Spot, asked_at, finish_at, glued_at};
-use ts_pattern::{PatternId, Term};
+use ts_pattern::{Aggregator, Feature, PatternId, Term};
 use ts_row::RowView;
 use ts_sweep::packed::Ends;
 
@@ -93,7 +92,7 @@ fn span_by_rows(
 }
 
 /// The same, in lanes of the width of both automata.
-#[tactic(auto, using(crate::proofs::Splits::split_is))]
+#[tactic(auto, using(ts_value_tests::proofs::Splits::split_is))]
 fn span_in_lanes<const N: usize>(
     alloc: Global,
     m: &Machine,
@@ -182,7 +181,7 @@ fn is_same_at(alloc: Global, m: &Machine, cells: &Boxed, k: u32) -> Result<bool,
 }
 
 /// The first cell at which they differ, of a machine that can be split.
-#[tactic(auto, using(crate::proofs::Splits::split_is))]
+#[tactic(auto, using(ts_value_tests::proofs::Splits::split_is))]
 fn first_other(alloc: Global, m: &Machine, cells: &Boxed) -> Result<Option<u32>, Fail>
     requires cells { 1 ≤ length cells.now.present }
     requires looks { LooksIn (automata_of m.now) cells.now.present }
@@ -207,17 +206,41 @@ fn is_same_under(alloc: Global, term: &Term, cells: &Boxed) -> Result<bool, Fail
     Ok(first_other(alloc, &m, cells)?.is_none())
 }
 
-/// The first pair of aggregator and feature under which they differ.
-fn first_wrong(alloc: Global, pattern: PatternId, cells: &Boxed) -> Result<Option<usize>, Fail>
+/// The first feature that folds cells under which they differ, with this aggregator.
+fn wrong_feature(
+    alloc: Global,
+    aggregator: Aggregator,
+    pattern: PatternId,
+    cells: &Boxed,
+) -> Result<Option<Feature>, Fail>
     requires { 1 ≤ length cells.now.present }
 {
-    for pair in 0..PAIRS.len() {
-        let term = term_of(pattern, pair).ok_or("no term")?;
+    for feature in [
+        Feature::Width,
+        Feature::Surf,
+        Feature::Max,
+        Feature::Min,
+        Feature::Range,
+    ] {
+        let term = Term::new(aggregator, feature, pattern).ok_or("no term")?;
         if !is_same_under(alloc, &term, cells)? {
-            return Ok(Some(pair));
+            return Ok(Some(feature));
         }
     }
     Ok(None)
+}
+
+/// Whether both ways tell the same where the ranges of the pattern are counted, and under each aggregator with each
+/// other feature.
+fn is_same_of(alloc: Global, pattern: PatternId, cells: &Boxed) -> Result<bool, Fail>
+    requires { 1 ≤ length cells.now.present }
+{
+    let count = Term::new(Aggregator::Sum, Feature::One, pattern).ok_or("no term")?;
+    let mut same = is_same_under(alloc, &count, cells)?;
+    for aggregator in [Aggregator::Sum, Aggregator::Max, Aggregator::Min] {
+        same = same && wrong_feature(alloc, aggregator, pattern, cells)?.is_none();
+    }
+    Ok(same)
 }
 
 #[test]
@@ -229,8 +252,7 @@ fn packed_rows_meet_as_tables_do(rt: HostRuntime) -> Result<(), Fail> {
         PatternId::Zigzag,
         PatternId::Plain,
     ] {
-        let wrong = first_wrong(rt.alloc(), pattern, &cells)?;
-        assert!(rt; wrong.is_none(), "{pattern:?}");
+        assert!(rt; is_same_of(rt.alloc(), pattern, &cells)?, "{pattern:?}");
     }
     Ok(())
 }
