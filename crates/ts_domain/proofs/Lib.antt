@@ -18,6 +18,7 @@ pub mod MarkKept
 pub mod Wholes
 pub mod SameSets
 pub mod Stretches
+pub mod Ways
 pub mod PlaceLaws
 pub mod Unions
 pub mod Joins

@@ -8,3 +8,4 @@ pub mod Pieces
 pub mod Trail
 pub mod Union
 pub mod Values
+pub mod Ways

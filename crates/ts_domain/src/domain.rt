@@ -1,12 +1,13 @@
 //! Non-empty finite sets of numbers.
 
-ghost use Rattle.std.specs.Prelude.{◌≡◌, ◌≢◌, ◌<◌, ◌-◌, ◌≤ℤ◌, ◌↔◌, ℤ, neg_ℤ, ◌⊎◌};
-ghost use Rattle.std.specs.Prelude.{[], length, slice_get, Some, IsTrue, IfOk, IfSome, All, Contains};
+ghost use Rattle.std.specs.Prelude.{◌≡◌, ◌≢◌, ◌<◌, ◌≤◌, ◌-◌, ◌≤ℤ◌, ◌↔◌, ℤ, neg_ℤ, ◌⊎◌};
+ghost use Rattle.std.specs.Prelude.{[], drop, length, slice_get, Some, IsTrue, IfOk, IfSome, All, Contains};
 ghost use Rattle.ts_base.specs.Limits.{greatest_value};
 ghost use Rattle.ts_domain.specs.Kept.{values_kept, values_up_to, values_above, values_without};
 ghost use Rattle.ts_domain.specs.Marks.{put_back};
 ghost use Rattle.ts_domain.specs.Union.{InSome, InSomeRange, IsUsable, SomeEmpty};
 ghost use Rattle.ts_domain.specs.Values.{IsDomain, IsRange, StandFrom, WithinLimits, least_of, values_of, AreRanges};
+ghost use Rattle.ts_domain.specs.Ways.{IsWay};
 
 use crate::counted::CountedRanges;
 use crate::cut::{above, up_to};
@@ -17,6 +18,7 @@ use crate::merge::{has_no_union, joined, ranges_of, union_of};
 use crate::pieces::{count_in, count_up_to, end_in, has_in, with_more};
 use crate::stop::DomainStop;
 use crate::values::{Values, walk};
+use crate::way::{Way, way_at};
 use smallvec::SmallVec;
 use std::alloc::Global;
 use std::marker::Model;
@@ -273,11 +275,32 @@ impl Domain {
         self.nth(self.size() - 1)
     }
 
-    /// The numbers in rising order; of those that follow one another without a gap only the first is searched for.
+    /// The numbers in rising order; where no number is marked, the first one alone is searched for.
     pub fn values<'a>(&'a self) -> Values<'a>
         ensures { result ≡ self.now }
     {
-        walk(self)
+        walk(self, 0)
+    }
+
+    /// The numbers from place `i` on, counted from 0, in rising order.
+    pub fn values_from<'a>(&'a self, i: u64) -> Values<'a>
+        requires { i ≤ length self.now }
+        ensures { result ≡ drop i self.now }
+    {
+        walk(self, i)
+    }
+
+    /// The numbers from place `i` of so many on, by ranges alone; `None` if some are marked.
+    pub(crate) fn way_from<'a>(&'a self, i: u64, size: u64) -> Option<Way<'a>>
+        requires { size ≡ length self.now }
+        ensures { IfSome result (IsWay self.now i) }
+    {
+        if !self.marks.is_empty() || i >= size {
+            return None;
+        }
+        let next = self.nth_of(i, size);
+        let ranges = self.ranges.items.as_slice();
+        way_at(ranges, self.piece, next)
     }
 
     /// Whether there is one number alone.

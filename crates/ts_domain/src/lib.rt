@@ -13,7 +13,8 @@
 //! marks a number in place, and its undo takes the mark away, so each costs by the depth of the marks' tree, and the
 //! trail keeps the number and a node for it. A set that has lost more than 128 numbers by marks gets ranges of its
 //! own where a smaller set is copied from it. Beside each range stands how many numbers lie before it, so the place
-//! of a number is found by halving. A way over the numbers searches for the first of each run alone.
+//! of a number is found by halving. A way over the numbers goes from range to range, and searches for its first number
+//! alone; where numbers are marked, for the first of each run.
 //!
 //! ```text
 //! let digits = Domain::from_ranges(alloc, &[0, 7], &[4, 9])?;
@@ -37,6 +38,7 @@ mod merge;
 mod pieces;
 mod stop;
 mod values;
+mod way;
 
 pub use boxed::Boxed;
 pub use domain::Domain;
