@@ -18,3 +18,14 @@ pub mod SeenRows
 pub mod PackedRows
 pub mod ValueLaws
 mod CellLists
+pub mod CellsRead
+pub mod ChangedRows
+mod HeldRows
+pub mod KnownRows
+pub mod LaidRows
+pub mod OthersLaws
+pub mod PackedStacks
+mod RoomLaws
+mod RowParts
+mod ShownRows
+mod WithoutValues

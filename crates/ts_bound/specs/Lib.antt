@@ -10,3 +10,12 @@ pub mod Packables
 pub mod Moves
 pub mod PackedRows
 pub mod CellLists
+pub mod AnyRows
+pub mod BoxRows
+pub mod Boxes
+pub mod Gone
+pub mod Others
+pub mod Reading
+pub mod Room
+pub mod RowStacks
+pub mod RowWindows

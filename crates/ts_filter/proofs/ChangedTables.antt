@@ -1,75 +1,28 @@
 -- Tables of a machine after a change of its cells: the rows that stay known, or are known again, are those of the cells now.
-use Rattle.std.proofs.Common.{◌≡◌, ℕ, ◌-◌, ◌<◌, ◌≤◌, ℤ, List, [], length, take, drop, reverse, get_or, Option, Some, None, sym, ap, ◌∙◌, subst, arith}
-use Rattle.std.proofs.lemmas.List.{get_or_default, get_or-reverse, length-reverse}
+use Rattle.std.proofs.Common.{◌≡◌, ℕ, ◌-◌, ℤ, List, [], length, reverse, get_or, Option, Some, None, sym, ap, ◌∙◌, subst, arith, refl}
+use Rattle.std.proofs.lemmas.List.{get_or_default, take_all}
 use Rattle.ts_base.specs.declared.range.Range.{Range}
-use Rattle.ts_base.specs.Windows.{looked_at}
-use Rattle.ts_bound.specs.TermSpans.{Automata}
+use Rattle.ts_base.specs.Windows.{looked_at, LooksInside}
+use Rattle.ts_bound.specs.TermSpans.{Automata, LooksIn}
 use Rattle.ts_domain.proofs.Sets.{nothing_in}
-use Rattle.ts_glue.specs.Pairs.{Pair}
 use Rattle.ts_meet.specs.declared.joints.Joints.{Joints}
 use Rattle.ts_model.specs.declared.model.Require.{Require}
-use Rattle.ts_sweep.specs.Sides.{Sides}
-use Rattle.ts_filter.specs.declared.gone.Change.{Change}
-use Rattle.ts_filter.specs.declared.planned.Planned.{Planned}
-use Rattle.ts_filter.specs.AnyRows.{form_sides}
+use Rattle.ts_bound.specs.declared.gone.Change.{Change}
+use Rattle.ts_bound.specs.declared.planned.Planned.{Planned}
+use Rattle.ts_bound.specs.AnyRows.{form_sides}
+use Rattle.ts_bound.specs.Gone.{AreLost}
+use Rattle.ts_bound.specs.BoxRows.{AreBehind, AreKeptBehind, GoOnBehind, IsChange, IsPlannedBack}
+use Rattle.ts_bound.specs.RowStacks.{IsLeft, IsPlanned, Stack}
+use Rattle.ts_bound.proofs.ChangedRows.{behind_left, first_inside, last_inside, long_later}
+use Rattle.ts_bound.proofs.LaidRows.{left_planned, left_stays}
+use Rattle.ts_bound.proofs.OthersLaws.{all_same, is_change}
+use Rattle.ts_bound.specs.Looks.{first_looked, last_looked}
+use Rattle.ts_bound.specs.declared.gone.Other.{Other}
+use Rattle.ts_bound.specs.Others.{AreOthers, Covers, IsCovered}
 use Rattle.ts_filter.specs.Boxes.{Box}
-use Rattle.ts_filter.specs.Gone.{AreLost}
-use Rattle.ts_filter.specs.KnownRows.{AreBehind, AreFirst, AreKeptBehind, AreKnown, AreRowsOf, AreTables, GoOnBehind, IsChange, IsPlannedBack, KnownRows}
-use Rattle.ts_filter.specs.RowStacks.{AreKept, GoOn, IsLeft, IsPlanned, Stack, sight}
-use Rattle.ts_filter.proofs.KnownRows.{reverse_take, turned_front}
-use Rattle.ts_filter.proofs.LaidRows.{left_planned, left_stays, tables}
-
--- the cells from the last one on
-
-turned_rest : (n before : ℕ) (b later : Box) → length b ≡ n → length later ≡ n → take before later ≡ take before b →
-    drop (n - before) (reverse later) ≡ drop (n - before) (reverse b)
-turned_rest n before b later e f same =
-    ap (λ m. drop (m - before) (reverse later)) (sym f) ∙ sym (reverse_take before later) ∙ ap reverse same ∙ reverse_take before b
-    ∙ ap (λ m. drop (m - before) (reverse b)) e
-
-turned_cell : (n last : ℕ) (b : Box) → length b ≡ n → 0 < last → last ≤ n → get_or (reverse b) (n - last) [] ≡ get_or b (last - 1) []
-turned_cell n last b long some within =
-    let place : length b - 1 - (n - last) ≡ last - 1 = omega (arith, long, some, within) in
-    get_or-reverse b (n - last) [] (omega (arith, long, some, within)) ∙ ap (λ i. get_or b i []) place
-
--- the domains of a cell that changes
-
-module _ (c : Change) (b later : Box) (d : IsChange c b later) where
-  long_later : length later ≡ length b
-  long_later = d.differ.count_later ∙ sym d.differ.count
-
-  first_inside : c.first < length b
-  first_inside = let some = c.some in let within = c.within in let n = d.differ.count in omega (arith, some, within, n)
-
-  last_inside : c.last - 1 < length b
-  last_inside = let some = c.some in let within = c.within in let n = d.differ.count in omega (arith, some, within, n)
-
-  turned : (cells : Box) → length cells ≡ c.count → get_or (reverse cells) (c.count - c.last) [] ≡ get_or cells (c.last - 1) []
-  turned cells e = let some = c.some in turned_cell c.count c.last cells e (omega (arith, some)) c.within
-
-  -- those of the backward rows
-
-  behind_left : (p : Option Pair) (ends : Sides) (old new : Stack) (before now : List ℤ) → form_sides old.planned.form ≡ ends → IsPlannedBack p old.planned →
-      AreBehind p ends b old.known → GoOnBehind p ends b old.laid → AreKeptBehind p ends b old.kept → get_or b (c.last - 1) [] ≡ before →
-      get_or (reverse later) (c.count - c.last) [] ≡ now → IsLeft (c.count - c.last) (c.count - c.first) c.gone_last before now old new →
-      AreBehind p ends later new.known × GoOnBehind p ends later new.laid × AreKeptBehind p ends later new.kept
-  behind_left None ends old new before now is plan h g k e e' f = (tt, tt, tt)
-  behind_left (Some p) ends old new before now is plan h g k e e' f =
-      let known = subst (λ s. AreFirst (sight p.reverse s) (reverse b) old.known) (sym is) h in
-      let laid = subst (λ s. GoOn (sight p.reverse s) (reverse b) old.laid.rows old.laid.from) (sym is) g in
-      let kept = subst (λ s. AreKept (sight p.reverse s) (reverse b) old.kept) (sym is) k in
-      let lost = subst (λ z. AreLost c.gone_last z now) e
-      (subst (AreLost c.gone_last (get_or b (c.last - 1) [])) (sym (turned later d.differ.count_later) ∙ e') d.gone_last) in
-      let rows = left_stays p.reverse (reverse b) (reverse later) (c.count - c.last) (c.count - c.first) old plan known laid kept
-      (length-reverse later ∙ long_later ∙ sym (length-reverse b))
-      (turned_front c.count c.last b later d.differ.count d.differ.count_later d.differ.behind)
-      (turned_rest c.count c.first b later d.differ.count d.differ.count_later d.differ.before) before now (turned b d.differ.count ∙ e) e' c.gone_last new f
-      lost in
-      let same = ap (λ (q : Planned). form_sides q.form) (left_planned (c.count - c.last) (c.count - c.first) c.gone_last before now old new f) ∙ is in (
-        subst (λ s. AreFirst (sight p.reverse s) (reverse later) new.known) same rows.known,
-        subst (λ s. GoOn (sight p.reverse s) (reverse later) new.laid.rows new.laid.from) same rows.laid,
-        subst (λ s. AreKept (sight p.reverse s) (reverse later) new.kept) same rows.kept,
-      )
+use Rattle.ts_filter.specs.KnownRows.{AreKnown, AreRowsOf, AreTables, KnownRows}
+use Rattle.ts_filter.proofs.TableRows.{tables}
+use Rattle.std.specs.Prelude.{slice_range}
 
 module _ (a : Automata) (c : Change) (b present : Box) (x y x' y' : Stack) (quiet : List Require) (plan : IsPlanned a.forward x.planned)
     (plan_back : IsPlannedBack a.pair y.planned) (form : y.planned.form ≡ x.planned.form) (before now before' now' : List ℤ)
@@ -121,3 +74,38 @@ tables_left a joints c x y x' y' before now before' now' h f g =
     subst (λ (q : Planned). AreTables a x'.planned q joints)
     (sym (left_planned (c.count - c.last) (c.count - c.first) c.gone_last before' now' y y' g))
     (subst (λ (p : Planned). AreTables a p y.planned joints) (sym (left_planned c.first c.last c.gone_first before now x x' f)) h)
+
+-- tables that follow a change
+
+window_part : (w : Option Range) (xs : Box) → slice_range xs (first_looked w - 1) (last_looked w (length xs)) ≡ looked_at w xs
+window_part None xs = take_all (length xs - 0) xs (omega arith)
+window_part (Some r) xs = refl
+
+module _ (others : List Other) (cells later : Box) (t : KnownRows) (h : AreOthers others cells later) (looks : LooksIn t.machine later) (from to : ℕ)
+    (is_from : from ≡ first_looked t.machine.window - 1) (is_to : to ≡ last_looked t.machine.window (length later)) where
+  abbrev Seen : Box
+  Seen = looked_at t.machine.window cells
+
+  looks_before : LooksInside (length cells) t.machine.window
+  looks_before = subst (λ n. LooksInside n t.machine.window) h.count looks
+
+  to_before : to ≡ last_looked t.machine.window (length cells)
+  to_before = is_to ∙ ap (last_looked t.machine.window) h.count
+
+  part_is : (part : Box) → part ≡ slice_range cells from to → part ≡ Seen
+  part_is part is =
+      is ∙ ap (λ f. slice_range cells f to) is_from ∙ ap (slice_range cells (first_looked t.machine.window - 1)) to_before
+      ∙ window_part t.machine.window cells
+
+  pub none_differs : IsCovered from to others None → AreKnown cells t → AreKnown later t
+  none_differs out known =
+      subst (λ z. AreRowsOf z t) (sym (all_same others cells later t.machine.window from to h looks_before is_from to_before out)) known
+
+  pub change_there : (c : Change) → Covers from to others c → (part : Box) → part ≡ slice_range cells from to →
+      IsChange c part (looked_at t.machine.window later)
+  change_there c v part is =
+      subst (λ z. IsChange c z (looked_at t.machine.window later)) (sym (part_is part is))
+      (is_change others cells later t.machine.window from to h looks_before is_from to_before c v)
+
+  pub seen_there : (part : Box) → part ≡ slice_range cells from to → AreKnown cells t → AreRowsOf part t
+  seen_there part is known = subst (λ z. AreRowsOf z t) (sym (part_is part is)) known

@@ -6,9 +6,10 @@ use Rattle.ts_base.specs.Windows.{LooksInside}
 use Rattle.ts_bound.specs.Looks.{first_looked, is_looked, last_looked}
 use Rattle.ts_bound.specs.TermSpans.{Automata, LooksIn, term_span}
 use Rattle.ts_bound.proofs.Looking.{ends_inside, looked_bounds}
+use Rattle.ts_bound.proofs.CellsRead.{unseen}
 use Rattle.ts_filter.specs.Boxes.{Box}
 use Rattle.ts_filter.specs.FirstCell.{IsEarly, IsFirstCell, NoneBefore}
-use Rattle.ts_filter.proofs.Looked.{span_outside, unseen}
+use Rattle.ts_filter.proofs.Looked.{span_outside}
 use Rattle.ts_filter.proofs.SoundLaws.{clash}
 
 module _ (a : Automata) (Excluded : Span → Type 0) (b : Box) (looks : LooksIn a b) where

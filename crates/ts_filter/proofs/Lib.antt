@@ -15,18 +15,12 @@ pub mod CallLaws
 mod AnswerLaws
 mod Refuting
 mod Removals
-mod WithoutValues
 mod MeetingLaws
-mod OthersLaws
 mod ChangedTables
-mod PackedStacks
 mod DropLaws
 mod EarlyCells
 pub mod SparedLaws
-mod HeldRows
 pub mod KeptLaws
-mod KnownRows
-mod LaidRows
 mod Quiet
 mod CellLaws
 mod TableSteps
@@ -34,7 +28,5 @@ mod MeetLaws
 mod EnoughEnds
 mod SeenEnds
 mod AlikeLaws
-mod RoomLaws
-mod RowParts
-mod ShownRows
 mod ManyLaws
+mod TableRows

@@ -22,12 +22,12 @@ use Rattle.ts_bound.specs.Blocks.{finishes, last_at, split_at}
 use Rattle.ts_bound.specs.HullTables.{cells_after, cells_before, hulls_at}
 use Rattle.ts_bound.specs.TermSpans.{span_of_all}
 use Rattle.ts_bound.proofs.SpanEnds.{IsPairOf, last_one}
-use Rattle.ts_filter.specs.declared.any_row.AnyRow.{AnyRow}
+use Rattle.ts_bound.specs.declared.any_row.AnyRow.{AnyRow}
+use Rattle.ts_bound.specs.AnyRows.{IsRowOf, columns, form_of, form_sides, glued_between, lanes_of, viewed}
 use Rattle.ts_filter.specs.declared.cell_hulls.BackSide.{BackSide}
 use Rattle.ts_filter.specs.declared.question.Question.{Question}
 use Rattle.ts_filter.specs.declared.so_far.SoFar.{SoFar}
 use Rattle.ts_filter.specs.Alike.{FindsAlike, IsServed}
-use Rattle.ts_filter.specs.AnyRows.{IsRowOf, columns, form_of, form_sides, glued_between, lanes_of, viewed}
 use Rattle.ts_filter.specs.Boxes.{Box}
 use Rattle.ts_filter.specs.CellHulls.{IsSide, places_of}
 use Rattle.ts_filter.specs.Question.{Excludes}

@@ -36,13 +36,14 @@ use Rattle.ts_bound.specs.PackedRows.{IsPackedRow}
 use Rattle.ts_bound.specs.TermSpans.{span_of_all}
 use Rattle.ts_bound.proofs.SeenRows.{seen_at}
 use Rattle.ts_bound.proofs.SpanEnds.{IsPairOf, last_one, split_one}
-use Rattle.ts_filter.specs.declared.any_row.AnyRow.{AnyRow}
-use Rattle.ts_filter.specs.declared.any_row.AnyRow.TheVariants.{Narrow, Upper, Lower, Wide}
+use Rattle.ts_bound.specs.declared.any_row.AnyRow.{AnyRow}
+use Rattle.ts_bound.specs.declared.any_row.AnyRow.TheVariants.{Narrow, Upper, Lower, Wide}
+use Rattle.ts_bound.specs.AnyRows.{Columns, IsFormOf, IsRowOf, columns, form_of, form_sides, glued_between, lanes_of, viewed}
+use Rattle.ts_bound.proofs.PackedStacks.{form_alone, lanes_are}
 use Rattle.ts_filter.specs.declared.cell_hulls.BackSide.{BackSide}
 use Rattle.ts_filter.specs.declared.question.Question.{Question}
 use Rattle.ts_filter.specs.declared.so_far.SoFar.{SoFar}
 use Rattle.ts_filter.specs.Alike.{FindsAlike, IsServed}
-use Rattle.ts_filter.specs.AnyRows.{Columns, IsFormOf, IsRowOf, columns, form_of, form_sides, glued_between, lanes_of, viewed}
 use Rattle.ts_filter.specs.Boxes.{Box}
 use Rattle.ts_filter.specs.CellHulls.{IsSide}
 use Rattle.ts_filter.specs.KnownRows.{HasJoints}
@@ -50,7 +51,6 @@ use Rattle.ts_filter.specs.Question.{Excludes}
 use Rattle.ts_filter.specs.SoFar.{WithParts}
 use Rattle.ts_filter.proofs.AlikeLaws.{EachAlike, finds_back, finds_folded, finds_on, finds_same, finds_self}
 use Rattle.ts_filter.proofs.CellLaws.{row_block}
-use Rattle.ts_filter.proofs.PackedStacks.{form_alone, lanes_are}
 use Rattle.ts_filter.proofs.SoFarLaws.{excludes_found, part_found}
 
 -- the hull of a state at a value

@@ -1,6 +1,5 @@
 -- Requirements by which nothing is found at the cells that are looked at.
-use Rattle.std.proofs.Common.{◌≡◌, ◌⊎◌, ℕ, ◌+◌, ◌-◌, ◌<◌, ◌≤◌, Bool, true, false, cond, List, [], ◌∷◌, length, Option, Some, None, refl, sym, ap, ◌∙◌, subst, inl, inr, arith}
-use Rattle.std.proofs.Common.{slice_get, get_or}
+use Rattle.std.proofs.Common.{◌≡◌, ◌⊎◌, ℕ, ◌+◌, ◌-◌, ◌<◌, ◌≤◌, Bool, true, false, cond, List, [], ◌∷◌, length, Option, Some, None, refl, sym, ap, ◌∙◌, subst, inl, inr, arith, slice_get, get_or}
 use Rattle.std.proofs.lemmas.Bool.{eq-eqb, eqb-true}
 use Rattle.std.proofs.lemmas.List.Quantifiers.{position-Some}
 use Rattle.std.proofs.lemmas.Option.{get_or_from_slice_get, slice_get-get_or}
@@ -12,17 +11,18 @@ use Rattle.ts_bound.specs.TermSpans.{Automata, LooksIn, inner_value_span, term_s
 use Rattle.ts_bound.proofs.Looking.{ends_inside, looked_by, looked_get, looked_length, place_inside, place_usable}
 use Rattle.ts_domain.proofs.Sets.{contains_cons, nothing_in}
 use Rattle.ts_model.specs.declared.model.Require.{Require}
+use Rattle.ts_bound.specs.RowStacks.{Stack}
+use Rattle.ts_bound.proofs.CellsRead.{forward_cell}
 use Rattle.ts_filter.specs.declared.drops.Removal.{Removal}
 use Rattle.ts_filter.specs.declared.term_requirements.TermRequirements.{TermRequirements}
 use Rattle.ts_filter.specs.Boxes.{Box, values_at}
 use Rattle.ts_filter.specs.Drops.{IsFirstOf}
 use Rattle.ts_filter.specs.Excluded.{Refutes}
 use Rattle.ts_filter.specs.KnownRows.{KnownRows, KnownWhereNone, StillKnown}
-use Rattle.ts_filter.specs.RowStacks.{Stack}
 use Rattle.ts_filter.specs.TermDrops.{AreAmong, IsFirstRefuting, IsQuiet, IsRefutedOutside, IsTermDrop}
 use Rattle.ts_filter.proofs.DropLaws.{refuting_outside}
-use Rattle.ts_filter.proofs.LaidRows.{tables}
-use Rattle.ts_filter.proofs.Looked.{forward_cell, value_looked}
+use Rattle.ts_filter.proofs.TableRows.{tables}
+use Rattle.ts_filter.proofs.Looked.{value_looked}
 use Rattle.ts_filter.proofs.SoundLaws.{clash}
 
 module _ (rs : List Require) (term : ℕ) where

@@ -17,20 +17,21 @@ use Rattle.ts_glue.specs.Machines.{forward_of, reverse_of}
 use Rattle.ts_glue.specs.Pairs.{Pair, pair, table_view}
 use Rattle.ts_glue.proofs.CallerLemmas.{machines_keep_rules}
 use Rattle.ts_glue.proofs.Facts.{facts_of}
-use Rattle.ts_filter.specs.declared.any_row.AnyRow.{AnyRow}
-use Rattle.ts_filter.specs.declared.any_row.Form.{Form}
+use Rattle.ts_bound.specs.declared.any_row.AnyRow.{AnyRow}
+use Rattle.ts_bound.specs.declared.any_row.Form.{Form}
+use Rattle.ts_bound.specs.declared.planned.Planned.{Planned}
+use Rattle.ts_bound.specs.AnyRows.{form_of, form_sides, viewed}
+use Rattle.ts_bound.specs.BoxRows.{IsPlannedBack}
+use Rattle.ts_bound.specs.RowStacks.{HasStates, IsPlanned, hulls_in, sight}
+use Rattle.ts_bound.proofs.KnownRows.{ahead_there, behind_there}
+use Rattle.ts_bound.proofs.PackedStacks.{packed_row}
 use Rattle.ts_filter.specs.declared.cell_hulls.BackSide.{BackSide}
-use Rattle.ts_filter.specs.declared.planned.Planned.{Planned}
 use Rattle.ts_filter.specs.declared.question.Question.{Question}
 use Rattle.ts_filter.specs.Alike.{IsServed}
-use Rattle.ts_filter.specs.AnyRows.{form_of, form_sides, viewed}
 use Rattle.ts_filter.specs.Boxes.{Box, values_at}
 use Rattle.ts_filter.specs.CellHulls.{AreHulls, HasForm, HasHulls, IsBackSide, IsSide, seen_after, seen_before}
-use Rattle.ts_filter.specs.KnownRows.{KnownRows, AreKnown, AreRowsOf, StillKnown, HasJoints, HasRows, IsPlannedBack, ends_of}
-use Rattle.ts_filter.specs.RowStacks.{HasStates, IsPlanned, hulls_in, sight}
-use Rattle.ts_filter.proofs.KnownRows.{ahead_there, behind_there}
+use Rattle.ts_filter.specs.KnownRows.{KnownRows, AreKnown, AreRowsOf, StillKnown, HasJoints, HasRows, ends_of}
 use Rattle.ts_filter.proofs.Looked.{inner_values, place_behind, place_from, place_is, place_to}
-use Rattle.ts_filter.proofs.PackedStacks.{packed_row}
 
 -- a row that is known, with how it is glued
 packed_side : (o : Option Pair) (p : Planned) (behind : Box) (values : List ℤ) (side : BackSide) → IsPlannedBack o p → HasJoints o (Some side.joints.now) →

@@ -1,18 +1,13 @@
 -- What the lines of a tree make of a box, one rising list of values a cell. Cells count from 1.
-use Rattle.std.specs.Prelude.{ℕ, ◌-◌, ◌≤◌, ◌⊎◌, ℤ, List, [], ◌∷◌, Contains, length, map, get_or, set}
+use Rattle.std.specs.Prelude.{ℕ, ◌-◌, ◌≤◌, ◌⊎◌, ℤ, List, [], ◌∷◌, Contains, length, map, set}
 use Rattle.ts_domain.specs.BoxSeries.{InBox, IsBox}
 use Rattle.ts_domain.specs.Kept.{values_up_to, values_above, values_without}
-
-abbrev pub Box : Type 0
-Box = List (List ℤ)
+pub use Rattle.ts_bound.specs.Boxes.{Box}
+pub use Rattle.ts_bound.specs.HullTables.{values_at}
 
 -- k is the number of a cell
 abbrev pub HasCell : ℕ → Box → Type 0
 HasCell k b = (1 ≤ k) × (k ≤ length b)
-
--- the values of cell k
-abbrev pub values_at : ℕ → Box → List ℤ
-values_at k b = get_or b (k - 1) []
 
 -- the box with other values in cell k
 abbrev pub with_values : ℕ → List ℤ → Box → Box

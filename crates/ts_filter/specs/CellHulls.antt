@@ -9,11 +9,11 @@ use Rattle.ts_glue.specs.Pairs.{Pair}
 use Rattle.ts_meet.specs.Joints.{AreJoints}
 use Rattle.ts_meet.specs.Settled.{Between}
 use Rattle.ts_sweep.specs.Sides.{Sides}
-use Rattle.ts_filter.specs.declared.any_row.AnyRow.{AnyRow}
+use Rattle.ts_bound.specs.declared.any_row.AnyRow.{AnyRow}
+use Rattle.ts_bound.specs.AnyRows.{IsRowOf, form_of, viewed}
 use Rattle.ts_filter.specs.declared.cell_hulls.BackSide.{BackSide}
 use Rattle.ts_filter.specs.declared.question.Question.{Question}
 use Rattle.ts_filter.specs.Alike.{FindsAlike, IsServed}
-use Rattle.ts_filter.specs.AnyRows.{IsRowOf, form_of, viewed}
 use Rattle.ts_filter.specs.Boxes.{Box, values_at}
 use Rattle.ts_filter.specs.Question.{Excludes}
 

@@ -5,34 +5,33 @@ ghost use Rattle.std.specs.Prelude.{◌≡◌, ◌↔◌, ◌≤◌, [], IfSome,
 ghost use Rattle.ts_base.specs.Windows.{looked_at};
 ghost use Rattle.ts_bound.specs.Looks.{count_looked, first_looked, is_looked, last_looked, read_at};
 ghost use Rattle.ts_bound.specs.TermSpans.{LooksIn, automata_of};
+ghost use Rattle.ts_bound.specs.AnyRows.{IsFormOf, form_of, form_sides, viewed};
+ghost use Rattle.ts_bound.specs.BoxRows.{IsPlannedBack};
+ghost use Rattle.ts_bound.specs.BoxRows.{IsChange};
+ghost use Rattle.ts_bound.specs.Others.{AreOthers};
+ghost use Rattle.ts_bound.specs.RowStacks.{no_rows, nothing_laid};
 ghost use Rattle.ts_filter.specs.Boxes.{Box};
 ghost use Rattle.ts_filter.specs.Alike.{IsServed};
-ghost use Rattle.ts_filter.specs.AnyRows.{IsFormOf, form_of, form_sides, viewed};
 ghost use Rattle.ts_filter.specs.CellHulls.{HasHulls, IsBackSide, Serves, at_cell};
 ghost use Rattle.ts_filter.specs.HeldMachine.{machine_in};
-ghost use Rattle.ts_filter.specs.KnownRows.{AreKnown, AreRowsOf, HasJoints, HasRows, IsPlannedBack, ends_of};
-ghost use Rattle.ts_filter.specs.KnownRows.{IsChange, KnownWhereNone, StillKnown};
-ghost use Rattle.ts_filter.specs.Others.{AreOthers};
-ghost use Rattle.ts_filter.specs.RowStacks.{no_rows, nothing_laid};
+ghost use Rattle.ts_filter.specs.KnownRows.{AreKnown, AreRowsOf, HasJoints, HasRows, ends_of};
+ghost use Rattle.ts_filter.specs.KnownRows.{KnownWhereNone, StillKnown};
 ghost use Rattle.ts_filter.specs.TermDrops.{AreAmong};
 ghost use Rattle.ts_glue.specs.Machines.{forward_of, pair_of};
 
-use crate::any_row::Form;
 use crate::cell_hulls::{BackSide, CellHulls};
 use crate::enough_form::enough_form;
-use crate::gone::Change;
 use crate::held_machine::HeldMachine;
-use crate::others::Others;
 use crate::question::Question;
-use crate::reading::{Direction, Reading};
-use crate::row_stack::RowStack;
-use crate::rows::make_rows;
 use crate::term_requirements::TermRequirements;
 use std::alloc::Global;
 use std::marker::Model;
 use std::mem;
 use ts_base::Memory;
-use ts_bound::{ends, is_looked, looked_count, read_at};
+use ts_bound::{
+    Change, Direction, Form, Others, Reading, RowStack, ends, is_looked, looked_count, make_rows,
+    read_at,
+};
 use ts_domain::{Boxed, Domain};
 use ts_glue::Machine;
 use ts_meet::Joints;

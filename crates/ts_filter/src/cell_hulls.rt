@@ -23,19 +23,18 @@ ghost use Rattle.ts_bound.specs.Blocks.{last_at, split_at};
 ghost use Rattle.ts_bound.specs.Laws.{AreAutomata};
 ghost use Rattle.ts_bound.specs.Looks.{count_looked, place_in};
 ghost use Rattle.ts_bound.specs.TermSpans.{automata_of, span_of_all, term_span, value_span};
+ghost use Rattle.ts_bound.specs.AnyRows.{form_of, form_sides, viewed};
 ghost use Rattle.ts_filter.specs.Question.{AsksEach, Excludes};
 ghost use Rattle.ts_filter.specs.Ends.{best_end};
 ghost use Rattle.ts_filter.specs.declared.question.Question.TheVariants.{Ranks};
 ghost use Rattle.ts_filter.specs.Boxes.{values_at};
 ghost use Rattle.ts_filter.specs.Alike.{IsServed};
-ghost use Rattle.ts_filter.specs.AnyRows.{form_of, form_sides, viewed};
 ghost use Rattle.ts_filter.specs.CellHulls.{AreMet, FindsAll, HasHulls, IsAheadRow, IsBackSide, Serves, places_of};
 ghost use Rattle.ts_filter.specs.SoFar.{IsSoFar, IsWholeSpan, WithParts};
 ghost use Rattle.ts_filter.specs.TermDrops.{IsFirstRefuting};
 ghost use Rattle.ts_glue.specs.Machines.{forward_of, pair_of, window_of};
 ghost use Rattle.ts_meet.specs.Settled.{Between};
 
-use crate::any_row::{AnyView, asked_between, settled_between};
 use crate::excluded::best_end;
 use crate::many_values::{AT_ONCE, last_places, split_places};
 use crate::question::Question;
@@ -44,7 +43,7 @@ use crate::term_requirements::TermRequirements;
 use std::marker::Model;
 use ts_base::{Ext, Goal, Span};
 use ts_bound::laws::machine_is_whole;
-use ts_bound::looked_count;
+use ts_bound::{AnyView, asked_between, looked_count, settled_between};
 use ts_domain::{Boxed, Domain};
 use ts_glue::Machine;
 use ts_meet::{Joints, Spot};
@@ -74,7 +73,7 @@ impl<'a> Model for CellHulls<'a> {
     ghost use Rattle.std.specs.Coded.{codes};
     ghost use Rattle.ts_automaton.specs.Codes.{formula_code};
     ghost use Rattle.ts_bound.specs.TermSpans.{automata_of};
-    ghost use Rattle.ts_filter.specs.AnyRows.{form_of, form_sides, viewed};
+    ghost use Rattle.ts_bound.specs.AnyRows.{form_of, form_sides, viewed};
     ghost use Rattle.ts_filter.specs.CellHulls.{AreHulls, AtCell, at_cell};
 
     ghost Value = { AtCell };

@@ -5,17 +5,17 @@
 //! the other side of a bound: then rows have both.
 
 ghost use Rattle.std.specs.Prelude.{◌≡◌, ℕ, IsTrue};
+ghost use Rattle.ts_bound.specs.AnyRows.{IsNarrowForm, form_sides};
 ghost use Rattle.ts_filter.specs.Alike.{IsServed, MarkKeeps};
-ghost use Rattle.ts_filter.specs.AnyRows.{IsNarrowForm, form_sides};
 ghost use Rattle.ts_filter.specs.declared.question.Question.TheVariants.{Compares, Counts, MeetsEach, Ranks};
 ghost use Rattle.ts_model.specs.declared.model.Op.TheVariants.{Above, AtLeast};
 
-use crate::any_row::Form;
 use crate::bar::Bar;
 use crate::question::Question;
 use crate::term_requirements::TermRequirements;
 use ts_automaton::Mark;
 use ts_base::{Ext, Goal};
+use ts_bound::Form;
 use ts_model::{Op, Require};
 
 /// The form of rows of a narrow automaton that is enough for the question, under a mark and for series of `n` cells.

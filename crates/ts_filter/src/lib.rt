@@ -4,10 +4,10 @@
 //! bound, or counts for a bar. The calls on a machine and a box answer the same of the box's span at a cell, and name
 //! the first cell, the first drop and the value to keep; each makes the rows of a machine once, however many cells
 //! there are, and looks at no further pair of states once some number of a span does what is asked. `AllTables` answers
-//! the same questions for the machines of all terms, of a box that was brought before, and keeps the rows: those that a
-//! change of the box doesn't reach serve the next box, and so do those after a row that comes out as it was; where a
-//! cell only lost values, its row shows the others, and shows lost ones again once they are back. `bring` finds out by
-//! itself what has changed. At cells of which its user knows that they have no drop (`KeptCells`) nothing is asked.
+//! the same questions for the machines of all terms, of a box that was brought before, and keeps the rows of hulls for
+//! the next box, as far as the change between the two doesn't reach them: how they are made, kept and found again is
+//! the business of ts_bound. `bring` finds out by itself what has changed. At cells of which its user knows that they
+//! have no drop (`KeptCells`) nothing is asked.
 //! The definitions state the rule of each line of a certificate, when a certificate is accepted, its first failing line
 //! and what its claim means; by the laws an accepted certificate means what it claims, whoever wrote it, wherever spans
 //! hold the values of their terms.
@@ -29,7 +29,6 @@
 #![tactic(auto)]
 
 mod all_tables;
-mod any_row;
 mod asking;
 mod at_cell;
 mod bar;
@@ -40,26 +39,15 @@ mod enough;
 mod enough_form;
 mod excluded;
 mod first_cell;
-mod found;
-mod gone;
 mod held_machine;
 mod kept;
 mod kept_cells;
 pub mod laws;
-mod lost;
 mod many_values;
 mod meeting;
-mod others;
-mod planned;
 mod question;
-mod reading;
-mod room;
-mod row_stack;
-mod rows;
-mod same_rows;
 mod so_far;
 mod term_requirements;
-mod two_cells;
 
 pub use all_tables::AllTables;
 pub use at_cell::{cut_at_end, refuted, refuted_value, worse};

@@ -6,16 +6,15 @@ ghost use Rattle.ts_bound.specs.Blocks.{last_at, split_at};
 ghost use Rattle.ts_bound.specs.Laws.{AreAutomata};
 ghost use Rattle.ts_bound.specs.Looks.{count_looked, place_in};
 ghost use Rattle.ts_bound.specs.TermSpans.{automata_of};
+ghost use Rattle.ts_bound.specs.AnyRows.{form_of, form_sides, viewed};
 ghost use Rattle.ts_filter.specs.Alike.{IsServed};
-ghost use Rattle.ts_filter.specs.AnyRows.{form_of, form_sides, viewed};
 ghost use Rattle.ts_filter.specs.Boxes.{values_at};
 ghost use Rattle.ts_filter.specs.CellHulls.{FindsAll, HasHulls, IsAheadRow, IsBackSide, places_of};
 ghost use Rattle.ts_glue.specs.Machines.{forward_of, pair_of, window_of};
 
-use crate::any_row::{AnyView, glued_values};
 use crate::cell_hulls::BackSide;
 use ts_base::Span;
-use ts_bound::looked_count;
+use ts_bound::{AnyView, glued_values, looked_count};
 use ts_domain::{Boxed, Domain};
 use ts_glue::Machine;
 

@@ -3,15 +3,15 @@
 ghost use Rattle.std.specs.Prelude.{◌≡◌, ◌<◌, IfOk, OnOk, length};
 ghost use Rattle.std.specs.List.{All};
 ghost use Rattle.ts_bound.specs.TermSpans.{LooksIn};
+ghost use Rattle.ts_bound.specs.Others.{AreOthers};
 ghost use Rattle.ts_filter.specs.Boxes.{Box};
-ghost use Rattle.ts_filter.specs.Others.{AreOthers};
 ghost use Rattle.ts_filter.specs.Tables.{AreRowsOfEach, machines_of};
 
 use crate::box_tables::BoxTables;
-use crate::others::Others;
 use std::alloc::Global;
 use std::mem;
 use ts_base::Memory;
+use ts_bound::Others;
 use ts_domain::{Boxed, Domain};
 
 /// Makes the tables of all terms, which are those of the cells that were seen, the tables of `cells`. Afterwards these

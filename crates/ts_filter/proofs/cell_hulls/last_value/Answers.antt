@@ -5,11 +5,11 @@ use Rattle.ts_bound.specs.Looks.{place_in}
 use Rattle.ts_bound.specs.TermSpans.{automata_of}
 use Rattle.ts_glue.specs.Machines.{forward_of, window_of}
 use Rattle.ts_meet.specs.Meets.{finish_hull}
+use Rattle.ts_bound.specs.AnyRows.{IsRowOf, columns, form_of, form_sides, lanes_of, viewed}
+use Rattle.ts_bound.proofs.CellsRead.{counted, counted_as}
 use Rattle.ts_filter.specs.Alike.{IsServed}
-use Rattle.ts_filter.specs.AnyRows.{IsRowOf, columns, form_of, form_sides, lanes_of, viewed}
 use Rattle.ts_filter.specs.Boxes.{values_at}
 use Rattle.ts_filter.specs.CellHulls.{seen_before}
-use Rattle.ts_filter.proofs.Looked.{counted, counted_as}
 use Rattle.ts_filter.proofs.MeetLaws.{last_found, place_there, width_of_form}
 use Rattle.ts_filter.proofs.cell_hulls.last_value.Goals as goal
 

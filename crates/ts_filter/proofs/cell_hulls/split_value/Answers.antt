@@ -6,12 +6,13 @@ use Rattle.ts_bound.specs.Looks.{place_in}
 use Rattle.ts_bound.specs.TermSpans.{automata_of}
 use Rattle.ts_bound.proofs.SpanEnds.{pair_is}
 use Rattle.ts_glue.specs.Machines.{forward_of, pair_of, window_of}
+use Rattle.ts_bound.specs.AnyRows.{form_of, form_sides, viewed}
+use Rattle.ts_bound.proofs.CellsRead.{counted, counted_as}
 use Rattle.ts_filter.specs.Alike.{IsServed}
-use Rattle.ts_filter.specs.AnyRows.{form_of, form_sides, viewed}
 use Rattle.ts_filter.specs.Boxes.{values_at}
 use Rattle.ts_filter.specs.CellHulls.{seen_after, seen_before}
 use Rattle.ts_filter.proofs.CellLaws.{cell_value}
-use Rattle.ts_filter.proofs.Looked.{cell_there, counted, counted_as}
+use Rattle.ts_filter.proofs.Looked.{cell_there}
 use Rattle.ts_filter.proofs.MeetLaws.{as_wide, left_place, none_told, right_place, some_told, width_there}
 use Rattle.ts_filter.proofs.cell_hulls.split_value.Goals as goal
 

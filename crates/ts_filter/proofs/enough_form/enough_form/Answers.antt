@@ -1,7 +1,7 @@
 use Rattle.std.proofs.Common.{sym, subst}
+use Rattle.ts_bound.specs.AnyRows.{form_sides}
 use Rattle.ts_filter.specs.declared.question.Question.{Question}
 use Rattle.ts_filter.specs.Alike.{IsServed}
-use Rattle.ts_filter.specs.AnyRows.{form_sides}
 use Rattle.ts_filter.proofs.enough_form.enough_form.Goals as goal
 
 pub returns-in-Compares-clause-served : goal.returns-in-Compares-clause-served

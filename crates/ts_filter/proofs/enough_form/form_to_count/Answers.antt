@@ -1,10 +1,10 @@
 use Rattle.std.proofs.Common.{sym, subst}
 use Rattle.ts_base.specs.declared.goal.Goal.{Goal}
 use Rattle.ts_base.specs.declared.goal.Goal.TheVariants.{Maximise, Minimise}
+use Rattle.ts_bound.specs.AnyRows.{form_sides}
 use Rattle.ts_filter.specs.declared.bar.Bar.{Bar}
 use Rattle.ts_filter.specs.declared.question.Question.TheVariants.{Counts}
 use Rattle.ts_filter.specs.Alike.{IsServed}
-use Rattle.ts_filter.specs.AnyRows.{form_sides}
 use Rattle.ts_filter.proofs.SeenEnds.{serves_as_great, serves_as_little, serves_greater, serves_less}
 use Rattle.ts_filter.proofs.enough_form.form_to_count.Goals as goal
 

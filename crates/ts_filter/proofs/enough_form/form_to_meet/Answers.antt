@@ -1,4 +1,4 @@
-use Rattle.ts_filter.specs.AnyRows.{form_sides}
+use Rattle.ts_bound.specs.AnyRows.{form_sides}
 use Rattle.ts_filter.proofs.AlikeLaws.{serve_each, serve_first, serve_more}
 use Rattle.ts_filter.proofs.enough_form.form_to_meet.Goals as goal
 

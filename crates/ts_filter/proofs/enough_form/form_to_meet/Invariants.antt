@@ -1,4 +1,4 @@
-use Rattle.ts_filter.specs.AnyRows.{form_sides}
+use Rattle.ts_bound.specs.AnyRows.{form_sides}
 use Rattle.ts_filter.proofs.AlikeLaws.{ServeUpTo}
 use Rattle.ts_filter.proofs.enough_form.form_to_meet.Given as goal
 

@@ -1,10 +1,10 @@
 use denote.Enum.Bare.{same_true}
 use Rattle.std.proofs.Common.{sym, ◌∙◌, subst, rules}
-use Rattle.ts_filter.specs.contracts.any_row.Form.{the_type}
-use Rattle.ts_filter.specs.declared.any_row.Form.{Form}
+use Rattle.ts_bound.specs.contracts.any_row.Form.{the_type}
+use Rattle.ts_bound.specs.declared.any_row.Form.{Form}
+use Rattle.ts_bound.specs.AnyRows.{form_sides}
 use Rattle.ts_filter.specs.declared.question.Question.TheVariants.{Compares}
 use Rattle.ts_filter.specs.Alike.{IsServed}
-use Rattle.ts_filter.specs.AnyRows.{form_sides}
 use Rattle.ts_filter.proofs.enough_form.is_enough.Goals as goal
 
 pub returns-else-r-term : goal.returns-else-r-term

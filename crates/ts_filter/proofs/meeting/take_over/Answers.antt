@@ -1,5 +1,5 @@
 use Rattle.std.proofs.Common.{[], ap, ◌∙◌, get_or, refl, arith}
-use Rattle.ts_filter.proofs.OthersLaws.{all_taken, one_taken}
+use Rattle.ts_bound.proofs.OthersLaws.{all_taken, one_taken}
 use Rattle.ts_filter.proofs.meeting.take_over.Goals as goal
 
 pub loop-i-preserved : goal.loop-i-preserved

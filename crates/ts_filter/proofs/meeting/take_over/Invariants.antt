@@ -1,4 +1,4 @@
-use Rattle.ts_filter.proofs.OthersLaws.{AreTaken}
+use Rattle.ts_bound.proofs.OthersLaws.{AreTaken}
 use Rattle.ts_filter.proofs.meeting.take_over.Given as goal
 
 abbrev pub invariant-loop-i : goal.invariant-loop-i

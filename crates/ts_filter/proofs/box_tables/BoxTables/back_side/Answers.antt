@@ -1,5 +1,6 @@
 use Rattle.std.proofs.Common.{ap, ◌∙◌, ◌<◌, length, sym, subst, [], get_or, ◌-◌}
-use Rattle.ts_filter.specs.KnownRows.{HasJoints, IsPlannedBack, KnownRows}
+use Rattle.ts_bound.specs.BoxRows.{IsPlannedBack}
+use Rattle.ts_filter.specs.KnownRows.{HasJoints, KnownRows}
 use Rattle.ts_filter.proofs.TableSteps.{back_side_of, behind_inside}
 use Rattle.ts_filter.proofs.box_tables.BoxTables.back_side.Goals as goal
 

@@ -1,10 +1,10 @@
 use Rattle.std.proofs.Common.{ap, ◌∙◌, ◌<◌, length, sym, subst, [], get_or, ◌-◌}
 use Rattle.ts_bound.specs.TermSpans.{automata_of}
 use Rattle.ts_glue.specs.declared.machine.Machine.{Machine}
-use Rattle.ts_filter.specs.AnyRows.{viewed}
+use Rattle.ts_bound.specs.AnyRows.{viewed}
+use Rattle.ts_bound.specs.RowStacks.{IsPlanned}
 use Rattle.ts_filter.specs.CellHulls.{AreHulls}
 use Rattle.ts_filter.specs.KnownRows.{KnownRows}
-use Rattle.ts_filter.specs.RowStacks.{IsPlanned}
 use Rattle.ts_filter.proofs.TableSteps.{ahead_inside, hulls_are}
 use Rattle.ts_filter.proofs.box_tables.BoxTables.hulls_at.Goals as goal
 

@@ -1,9 +1,9 @@
 use Rattle.std.proofs.Common.{ap, ◌∙◌, refl}
 use Rattle.ts_bound.specs.TermSpans.{automata_of}
 use Rattle.ts_glue.specs.Machines.{forward_of, window_of}
-use Rattle.ts_filter.specs.declared.planned.Planned.{Planned}
+use Rattle.ts_bound.specs.declared.planned.Planned.{Planned}
 use Rattle.ts_filter.specs.HeldMachine.{machine_in}
-use Rattle.ts_filter.proofs.LaidRows.{ahead_known}
+use Rattle.ts_filter.proofs.TableRows.{ahead_known}
 use Rattle.ts_filter.proofs.box_tables.BoxTables.make_ahead.Goals as goal
 
 pub returns-clause-known : goal.returns-clause-known

@@ -1,5 +1,5 @@
 use Rattle.std.proofs.Common.{◌-◌, ap, rules}
-use Rattle.ts_filter.proofs.OthersLaws.{change_there, none_differs, seen_there}
+use Rattle.ts_filter.proofs.ChangedTables.{change_there, none_differs, seen_there}
 use Rattle.ts_filter.proofs.box_tables.BoxTables.meet_others.Goals as goal
 
 pub changed-requires-clause-change : goal.changed-requires-clause-change

@@ -1,5 +1,5 @@
 use Rattle.std.proofs.Common.{refl}
-use Rattle.ts_filter.proofs.LaidRows.{nothing_known}
+use Rattle.ts_filter.proofs.TableRows.{nothing_known}
 use Rattle.ts_filter.proofs.box_tables.BoxTables.new.Goals as goal
 
 pub returns-clause-known : goal.returns-clause-known

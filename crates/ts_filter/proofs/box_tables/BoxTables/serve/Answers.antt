@@ -1,11 +1,11 @@
 use denote.Enum.Bare.{same_true}
 use Rattle.std.proofs.Common.{◌∙◌, ap, rules, sym}
 use Rattle.ts_bound.specs.TermSpans.{automata_of}
-use Rattle.ts_filter.specs.contracts.any_row.Form.{the_type}
+use Rattle.ts_bound.specs.contracts.any_row.Form.{the_type}
+use Rattle.ts_bound.proofs.PackedStacks.{yes}
 use Rattle.ts_filter.specs.HeldMachine.{machine_in}
 use Rattle.ts_filter.specs.KnownRows.{KnownRows}
-use Rattle.ts_filter.proofs.LaidRows.{tables}
-use Rattle.ts_filter.proofs.PackedStacks.{yes}
+use Rattle.ts_filter.proofs.TableRows.{tables}
 use Rattle.ts_filter.proofs.TableSteps.{still_served}
 use Rattle.ts_filter.proofs.box_tables.BoxTables.serve.Goals as goal
 

@@ -1,6 +1,0 @@
-use Rattle.std.proofs.Common.{take}
-use Rattle.ts_filter.specs.Others.{IsCovered}
-use Rattle.ts_filter.proofs.others.Others.change_within.Given as goal
-
-abbrev pub invariant-loop-i : goal.invariant-loop-i
-invariant-loop-i l = IsCovered l.from l.to (take l.i l.self.each.items) l.change

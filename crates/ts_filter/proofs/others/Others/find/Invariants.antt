@@ -1,5 +1,0 @@
-use Rattle.ts_filter.proofs.OthersLaws.{AreFound}
-use Rattle.ts_filter.proofs.others.Others.find.Given as goal
-
-abbrev pub invariant-loop-at : goal.invariant-loop-at
-invariant-loop-at l = AreFound l.self.each.items l.seen l.cells.present l.at
