@@ -1,11 +1,12 @@
 -- Spans read off rows are those of the definitions; at the last cell the glued form is the finish form.
-use Rattle.std.proofs.Common.{◌≡◌, ℕ, zero, suc, ◌+◌, ◌<◌, ◌≤◌, inr, ⊎_elim, ℤ, Bool, true, false, cond, nat_eq, List, [], ◌∷◌, ◌++◌, length, map, get_or, refl, sym, ap, ◌∙◌, subst, arith}
-use Rattle.std.specs.Prelude.{IsTrue, IsSome, fold, flat_map, Contains, Option, None, Some, IfSome, option_map}
+use Rattle.std.proofs.Common.{◌≡◌, ℕ, zero, suc, ◌+◌, ◌<◌, ◌≤◌, inr, ℤ, Bool, true, false, cond, nat_eq, List, [], ◌∷◌, ◌++◌, length, map, take, get_or, slice_get, refl, sym, ap, ◌∙◌, subst, arith}
+use Rattle.std.specs.Prelude.{IsTrue, IsSome, fold, flat_map, Option, None, Some, IfSome, option_map}
 use Rattle.std.specs.List.{range_with_len, AllByRecursion}
 use Rattle.std.proofs.lemmas.Bool.{eqb-true}
-use Rattle.std.proofs.lemmas.List.{drop_all}
-use Rattle.std.proofs.lemmas.List.Sums.{fold-append}
+use Rattle.std.proofs.lemmas.List.{drop_all, get_or-map, length-map, take_all}
+use Rattle.std.proofs.lemmas.List.Sums.{fold-append, fold_more}
 use Rattle.std.proofs.lemmas.List.FromFn.{get_or-map-range_with_len}
+use Rattle.std.proofs.lemmas.Option.{get_or_from_slice_get}
 use Rattle.ts_base.specs.declared.span.Span.{Span}
 use Rattle.ts_base.specs.Limits.{IsCellValue}
 use Rattle.ts_base.specs.Spans.{none_span, span_hull}
@@ -17,7 +18,6 @@ use Rattle.ts_automaton.specs.Body.{Body}
 use Rattle.ts_automaton.specs.SpanRun.{has_registers, finish_span_of, one_hull}
 use Rattle.ts_automaton.proofs.Five.{none_registers}
 use Rattle.ts_automaton.proofs.Rules.{rules_of}
-use Rattle.ts_domain.proofs.Sets.{contains_cons}
 use Rattle.ts_domain.specs.BoxSeries.{IsBox}
 use Rattle.ts_glue.specs.declared.machine.Machine.{Machine}
 use Rattle.ts_glue.specs.declared.machine.Half.{Half}
@@ -36,7 +36,7 @@ use Rattle.ts_bound.specs.Blocks.{standing_of, HullsStand, finishes, glued_with,
 use Rattle.ts_bound.specs.Looks.{is_looked, read_at, place_in}
 use Rattle.ts_hull.proofs.HullLaws.{IsCanonical, hull_canonical}
 use Rattle.ts_bound.proofs.Looking.{looked_length, looked_get, place_end, place_read, read_inside_box}
-use Rattle.ts_bound.proofs.SpanRuns.{length-hulls_at, hulls_stand}
+use Rattle.ts_bound.proofs.SpanRuns.{length-hulls_at, hulls_stand, none_some, same_some}
 
 -- lists over a range that agree at each place
 
@@ -94,16 +94,6 @@ split_is m k cells v some is = go m.forward m.pair some is
         (length p.reverse.states)
         (length f.states))) (sym is)
         ∙ ap span_of_all (glued_are p (cells_before k cells) (cells_after k cells) v (length cells))
-
-pub same_map : {A : Type 0} (f g : ℤ → A) (vs : List ℤ) → ((v : ℤ) → f v ≡ g v) → map f vs ≡ map g vs
-same_map f g [] h = refl
-same_map f g (v ∷ vs) h = ap (λ x. x ∷ map f vs) (h v) ∙ ap (λ l. g v ∷ l) (same_map f g vs h)
-
-pub split_ends : (m : Automata) (k : ℕ) (cells : List (List ℤ)) → IsSome m.pair → IsPairOf m.forward m.pair →
-    span_of_all (map (split_at m.forward m.pair k cells) (values_at k cells)) ≡ inner_span m k cells
-unfolding inner_span
-split_ends m k cells some is =
-    ap span_of_all (same_map (split_at m.forward m.pair k cells) (inner_value_span m k cells) (values_at k cells) (λ v. split_is m k cells v some is))
 
 pub split_value_ends : (m : Automata) (k : ℕ) (cells : List (List ℤ)) (v : ℤ) → IsSome m.pair → IsPairOf m.forward m.pair →
     split_at m.forward m.pair k cells v ≡ inner_value_span m k cells v
@@ -169,14 +159,8 @@ pub last_value_ends : (m : Automata) → AreAutomata m → (k : ℕ) (cells : Li
     last_at m.forward k cells v ≡ inner_value_span m k cells v
 last_value_ends m are k cells v last = last_is m are k cells last v
 
-place_last : (m : Automata) (p : ℕ) (cells : List (List ℤ)) → LooksIn m cells → p ≡ length cells → place_in m.window p ≡ length (looked_at m.window cells)
+pub place_last : (m : Automata) (p : ℕ) (cells : List (List ℤ)) → LooksIn m cells → p ≡ length cells → place_in m.window p ≡ length (looked_at m.window cells)
 place_last m p cells looks last = ap (place_in m.window) last ∙ place_end m.window (length cells) looks ∙ sym (looked_length m.window cells looks)
-
-pub last_ends : (m : Automata) → AreAutomata m → (k : ℕ) (cells : List (List ℤ)) → k ≡ length cells →
-    span_of_all (map (last_at m.forward k cells) (values_at k cells)) ≡ inner_span m k cells
-unfolding inner_span
-last_ends m are k cells last = ap span_of_all (same_map (last_at m.forward k cells) (inner_value_span m k cells) (values_at k cells)
-    (λ v. last_is m are k cells last v))
 
 -- what the type of a machine keeps
 
@@ -196,10 +180,6 @@ machine_splits m r = go m.half refl r
     go None e r = tt
     go (Some h) e r = record { forward = refl; reverse = r; rules = m.rules h e; local = m.local h e }
 
-pub back_length : (o : Option Pair) (behind : List (List ℤ)) (v : ℤ) → length (back_hulls o behind v) ≡ back_states o
-back_length None behind v = refl
-back_length (Some p) behind v = length-hulls_at p.reverse behind v
-
 pub right_kinds : (o : Option Pair) (m : ℕ) (behind : List (List ℤ)) (v : ℤ) (hs : List Hull) → OfReverse o (λ b. IsTrue (is_automaton b)) →
     m ≡ back_states o →
     hs ≡ back_hulls o behind v → OfReverse o (λ b. (length b.states ≡ m) × HullsStand b hs)
@@ -208,67 +188,52 @@ right_kinds (Some p) m behind v hs h is_m is = (sym is_m, hulls_stand p.reverse 
 
 -- spans at a cell of the box, read where it is looked at
 
+abbrev pub value_there : Automata → ℕ → List (List ℤ) → ℤ → Span
+value_there m k cells = inner_value_span m (place_in m.window k) (looked_at m.window cells)
+
 module _ (m : Automata) (k p : ℕ) (cells : List (List ℤ)) (looks : LooksIn m cells) (some : 1 ≤ p) (few : p ≤ length cells)
     (read : k ≡ read_at m.window p) where
+  pub read_there : (1 ≤ k) × (k ≤ length cells) × (is_looked m.window k ≡ true)
+  read_there =
+      subst (λ j. (1 ≤ j) × (j ≤ length cells) × (is_looked m.window j ≡ true)) (sym read) (read_inside_box m.window (length cells) p looks some few)
+
   place_same : place_in m.window k ≡ place_in m.window p
   place_same = ap (place_in m.window) read ∙ place_read m.window (length cells) p looks some few
 
-  here : (f : ℤ → Span) → span_of_all (map f (values_at k cells)) ≡ span_of_all (map f (values_at (place_in m.window k) (looked_at m.window cells)))
-  here f =
-      let r = (read_inside_box m.window (length cells) p looks some few).2 in
-      let is : is_looked m.window k ≡ true = ap (is_looked m.window) read ∙ r in
-      ap (λ d. span_of_all (map f d)) (sym (looked_get cells k m.window [] looks is))
+  pub read_last : p ≡ length cells → place_in m.window k ≡ length (looked_at m.window cells)
+  read_last last = place_same ∙ place_last m p cells looks last
 
-  pub term_split : (s : Span) → IsSome m.pair → IsPairOf m.forward m.pair →
-      s ≡ span_of_all (map (split_at m.forward m.pair (place_in m.window k) (looked_at m.window cells)) (values_at k cells)) → s ≡ term_span m p cells
-  unfolding term_span
-  term_split s split is e =
-      e ∙ here (split_at m.forward m.pair (place_in m.window k) (looked_at m.window cells))
-      ∙ split_ends m (place_in m.window k) (looked_at m.window cells) split is ∙ ap (λ j. inner_span m j (looked_at m.window cells)) place_same
+  -- all values of it were taken in
+  pub term_taken : (i : ℕ) (span : Span) → length (values_at k cells) ≤ i →
+      span ≡ span_of_all (take i (map (value_there m k cells) (values_at k cells))) → span ≡ term_span m p cells
+  unfolding term_span inner_span
+  term_taken i span all e =
+      let inner = looked_at m.window cells in
+      let l = length-map (values_at k cells) (value_there m k cells) in
+      e ∙ ap span_of_all (take_all i (map (value_there m k cells) (values_at k cells)) (omega (arith, l, all)))
+      ∙ ap (λ d. span_of_all (map (value_there m k cells) d)) (sym (looked_get cells k m.window [] looks read_there.2))
+      ∙ ap (λ j. span_of_all (map (inner_value_span m j inner) (values_at j inner))) place_same
 
-  pub term_last : (s : Span) → AreAutomata m → p ≡ length cells →
-      s ≡ span_of_all (map (last_at m.forward (place_in m.window k) (looked_at m.window cells)) (values_at k cells)) → s ≡ term_span m p cells
-  unfolding term_span
-  term_last s are last e =
-      e ∙ here (last_at m.forward (place_in m.window k) (looked_at m.window cells))
-      ∙ last_ends m are (place_in m.window k) (looked_at m.window cells) (place_same ∙ place_last m p cells looks last)
-      ∙ ap (λ j. inner_span m j (looked_at m.window cells)) place_same
+pub value_taken : (m : Automata) (k : ℕ) (cells : List (List ℤ)) (i : ℕ) (v : ℤ) (span one both : Span) → i < length (values_at k cells) →
+    slice_get (values_at k cells) i ≡ Some v → one ≡ value_there m k cells v → both ≡ span_hull span one →
+    span ≡ span_of_all (take i (map (value_there m k cells) (values_at k cells))) →
+    both ≡ span_of_all (take (i + 1) (map (value_there m k cells) (values_at k cells)))
+value_taken m k cells i v span one both lt at is_one is_both inv =
+    let f = value_there m k cells in let values = values_at k cells in
+    let l = length-map values f in
+    is_both ∙ ap (λ s. span_hull s one) inv ∙ ap (span_hull (span_of_all (take i (map f values)))) (is_one ∙ ap f (sym (get_or_from_slice_get values i v v at))
+    ∙ sym (get_or-map f values i v none_span lt))
+    ∙ sym (fold_more span_hull none_span (map f values) i none_span (omega (arith, l, lt)))
 
-module _ (m : Automata) (p : ℕ) (cells : List (List ℤ)) (v : ℤ) where
-  pub value_split : (s : Span) → is_looked m.window p ≡ true → IsSome m.pair → IsPairOf m.forward m.pair →
-      s ≡ split_at m.forward m.pair (place_in m.window p) (looked_at m.window cells) v → s ≡ value_span m p cells v
-  unfolding value_span
-  value_split s there split is e =
-      e ∙ split_value_ends m (place_in m.window p) (looked_at m.window cells) v split is
-      ∙ sym (ap (λ t. cond t (inner_value_span m (place_in m.window p) (looked_at m.window cells) v) (term_span m p cells)) there)
+pub value_inside : (m : Automata) (p : ℕ) (cells : List (List ℤ)) (v : ℤ) (s : Span) → is_looked m.window p ≡ true → s ≡ value_there m p cells v →
+    s ≡ value_span m p cells v
+unfolding value_span
+value_inside m p cells v s there e = e ∙ sym (ap (λ t. cond t (value_there m p cells v) (term_span m p cells)) there)
 
-  pub value_last : (s : Span) → LooksIn m cells → is_looked m.window p ≡ true → AreAutomata m → p ≡ length cells →
-      s ≡ last_at m.forward (place_in m.window p) (looked_at m.window cells) v → s ≡ value_span m p cells v
-  unfolding value_span
-  value_last s looks there are last e =
-      e ∙ last_value_ends m are (place_in m.window p) (looked_at m.window cells) v (place_last m p cells looks last)
-      ∙ sym (ap (λ t. cond t (inner_value_span m (place_in m.window p) (looked_at m.window cells) v) (term_span m p cells)) there)
-
-  pub value_outside : (s : Span) → is_looked m.window p ≡ false → s ≡ term_span m p cells → s ≡ value_span m p cells v
-  unfolding value_span
-  value_outside s there e =
-      e ∙ sym (ap (λ t. cond t (inner_value_span m (place_in m.window p) (looked_at m.window cells) v) (term_span m p cells)) there)
-
--- the loops over the values of a cell
-
-abbrev pub Taken : (ℤ → Span) → List ℤ → List ℤ → Span → Type 0
-Taken f values left span = fold span_hull span (map f left) ≡ span_of_all (map f values)
-
-pub taken_begun : (f : ℤ → Span) (values left : List ℤ) (span : Span) → span ≡ none_span → left ≡ values → Taken f values left span
-taken_begun f values left span is same = ap (λ s. fold span_hull s (map f left)) is ∙ ap (λ l. span_of_all (map f l)) same
-
-pub taken_more : (f : ℤ → Span) (values left left' : List ℤ) (v : ℤ) (span one : Span) → left ≡ v ∷ left' → one ≡ f v → Taken f values left span →
-    Taken f values left' (span_hull span one)
-taken_more f values left left' v span one is is_one inv =
-    ap (λ s. fold span_hull (span_hull span s) (map f left')) is_one ∙ ap (λ l. fold span_hull span (map f l)) (sym is) ∙ inv
-
-pub taken_all : (f : ℤ → Span) (values left : List ℤ) (span : Span) → left ≡ [] → Taken f values left span → span ≡ span_of_all (map f values)
-taken_all f values left span is inv = ap (λ l. fold span_hull span (map f l)) (sym is) ∙ inv
+pub value_outside : (m : Automata) (p : ℕ) (cells : List (List ℤ)) (v : ℤ) (s : Span) → is_looked m.window p ≡ false → s ≡ term_span m p cells →
+    s ≡ value_span m p cells v
+unfolding value_span
+value_outside m p cells v s there e = e ∙ sym (ap (λ t. cond t (value_there m p cells v) (term_span m p cells)) there)
 
 pub last_one : (b : Body) (k : ℕ) (cells : List (List ℤ)) (v : ℤ) (hs : List Hull) (n : ℕ) (one : Span) → hs ≡ hulls_at b (cells_before k cells) v →
     n ≡ length cells →
@@ -290,31 +255,24 @@ split_one b o k cells v v' left right n m one is_v is_left is_right is_n is_m is
     ∙ ap (λ i. span_of_all (glued_all o (hulls_at b (cells_before k cells) v) (back_hulls o (cells_after k cells) v) v (length cells) i
     (length b.states))) is_m
 
--- values that are left lie within the limits
+-- values lie within the limits
 pub within_of : (cells : List (List ℤ)) (i : ℕ) (values : List ℤ) → IsBox cells → i < length cells → values ≡ get_or cells i [] →
     AllByRecursion IsCellValue values
 within_of [] i values b lt is = absurd (omega (arith, lt))
 within_of (d ∷ cells) zero values b lt is = subst (AllByRecursion IsCellValue) (sym is) b.0.within
 within_of (d ∷ cells) (suc i) values b lt is = within_of cells i values b.1 (omega (arith, lt)) is
 
-pub first_within : (left left' : List ℤ) (v : ℤ) → left ≡ v ∷ left' → AllByRecursion IsCellValue left → IsCellValue v × AllByRecursion IsCellValue left'
-first_within left left' v is h = subst (AllByRecursion IsCellValue) is h
-
-pub still_there : (left left' : List ℤ) (v w : ℤ) → left ≡ w ∷ left' → (w ≡ v → ⊥) → Contains left v → Contains left' v
-still_there left left' v w is ne c = ⊎_elim (λ e. absurd (ne e)) (λ r. r) ((contains_cons w left' v).0 (subst (λ l. Contains l v) is c))
+pub value_within : (values : List ℤ) (i : ℕ) (v : ℤ) → AllByRecursion IsCellValue values → slice_get values i ≡ Some v → IsCellValue v
+value_within [] i v h at = absurd (none_some v at)
+value_within (x ∷ values) zero v h at = subst IsCellValue (same_some x v at) h.0
+value_within (x ∷ values) (suc i) v h at = value_within values i v h.1 at
 
 -- what the reverse body tells, seen through the machine
 
 pub reverse_rules : (o : Option Pair) (r : Option Body) (b : Body) → r ≡ option_map (λ p. p.reverse) o → r ≡ Some b → IsTrue (is_automaton b) →
     OfReverse o (λ b. IsTrue (is_automaton b))
-reverse_rules None r b e is h = absurd (let z : None ≡ Some b = sym e ∙ is in none_some b z)
-  where
-    none_some : (b : Body) → None ≡ Some b → ⊥
-    none_some b z = cc
-reverse_rules (Some p) r b e is h = subst (λ x. IsTrue (is_automaton x)) (same (sym is ∙ e)) h
-  where
-    same : Some b ≡ Some p.reverse → b ≡ p.reverse
-    same z = cc
+reverse_rules None r b e is h = absurd (none_some b (sym e ∙ is))
+reverse_rules (Some p) r b e is h = subst (λ x. IsTrue (is_automaton x)) (same_some b p.reverse (sym is ∙ e)) h
 
 pub whole_split : (m : Machine) (b : Body) (r : Option Body) → r ≡ reverse_of m → r ≡ Some b → IsTrue (is_automaton b) →
     IsTrue (is_automaton (forward_of m)) → AreAutomata (automata_of m)

@@ -1,11 +1,11 @@
 -- What the loops over the values of a cell and over the states of a value keep, where spans are read off rows.
-use Rattle.std.proofs.Common.{◌≡◌, true, ℕ, zero, suc, ◌+◌, ◌-◌, ◌<◌, ◌≤◌, ℤ, List, [], ◌∷◌, ◌++◌, length, map, take, drop, get_or, refl, sym, ap, ◌∙◌, subst, arith}
-use Rattle.std.specs.Prelude.{IsTrue, IsSome, fold, flat_map, reverse, Option, None, Some, IfSome, option_map}
+use Rattle.std.proofs.Common.{◌≡◌, true, ℕ, zero, suc, ◌+◌, ◌*◌, ◌-◌, ◌<◌, ◌≤◌, ℤ, List, [], ◌∷◌, ◌++◌, length, map, take, drop, get_or, slice_get, refl, sym, ap, ◌∙◌, subst, arith}
+use Rattle.std.specs.Prelude.{IsTrue, IsSome, fold, flat_map, reverse, slice_range, Option, None, Some, IfSome, option_map}
 use Rattle.std.specs.List.{range_with_len}
 use Rattle.std.proofs.lemmas.List.{append-nil, append_assoc, get_or_default, length-append, reverse-append, map_push}
 use Rattle.std.proofs.lemmas.List.Sums.{fold-append}
 use Rattle.std.proofs.lemmas.List.FromFn.{length-map-range_with_len, get_or-map-range_with_len}
-use Rattle.std.proofs.Math.Seq.{take-append_seam, drop-append_seam}
+use Rattle.std.proofs.Math.Seq.{take-append_seam, drop-append-add}
 use Rattle.ts_base.specs.declared.span.Span.{Span}
 use Rattle.ts_base.specs.Spans.{none_span, span_hull}
 use Rattle.ts_automaton.specs.declared.regs.Hull.{Hull}
@@ -19,7 +19,7 @@ use Rattle.ts_glue.specs.Glued.{glued_span}
 use Rattle.ts_hull.specs.Hulls.{none}
 use Rattle.ts_bound.specs.HullTables.{hull_at, hulls_at, row_of, cells_before, cells_after, values_at, rows_behind, forward_rows, backward_rows, forward_table}
 use Rattle.ts_bound.specs.TermSpans.{span_of_all}
-use Rattle.ts_bound.specs.Blocks.{standing_of, HullsStand, glued_by, finishes, glued_with, glued_all, OfReverse, AreBackRows, back_hulls}
+use Rattle.ts_bound.specs.Blocks.{standing_of, HullsStand, glued_by, finishes, glued_with, glued_all, OfReverse, AreBackRows, back_hulls, back_states}
 use Rattle.ts_bound.proofs.TableLaws.{hull_kept, kept_stands, length-forward, length-backward}
 use Rattle.ts_bound.specs.Rows.{IsRow, row_at, windowed}
 use Rattle.ts_bound.specs.Looks.{is_looked, count_looked, place_in}
@@ -118,25 +118,41 @@ all_more p left right x x' n m q h d span span' is_x lt is_h step inv =
     ∙ sym (ap span_of_all (ap (flat_map f) (range_more q q refl) ∙ flat_push f (range_with_len 0 q) q)
     ∙ fold-append span_hull none_span (flat_map f (range_with_len 0 q)) (f q))
 
--- the loops over the values of a cell: what is left of a row
+-- the hulls of one value of a row
 
-pub block_fits : (n m : ℕ) (f : ℤ → List Hull) → ((v : ℤ) → length (f v) ≡ n) → (left left' : List ℤ) (v : ℤ) (row : List Hull) → m ≡ n → left ≡ v ∷ left' →
-    row ≡ flat_map f left → m ≤ length row
-block_fits n m f size left left' v row is_m is inv =
-    let e = ap length (inv ∙ ap (flat_map f) is) in let a = length-append (f v) (flat_map f left') in let s = size v in omega (arith, is_m, e, a, s)
+pub none_some : {X : Type 0} (v : X) → None ≡ Some v → ⊥
+none_some v e = cc
 
-pub block_is : (n m : ℕ) (f : ℤ → List Hull) → ((v : ℤ) → length (f v) ≡ n) → (left left' : List ℤ) (v : ℤ) (row hs : List Hull) → m ≡ n → left ≡ v ∷ left' →
-    row ≡ flat_map f left → hs ≡ take m row → hs ≡ f v
-block_is n m f size left left' v row hs is_m is inv is_hs =
-    let s = size v in let w : m ≡ length (f v) = omega (arith, is_m, s) in
-    is_hs ∙ ap (λ k. take k row) w ∙ ap (take (length (f v))) (inv ∙ ap (flat_map f) is) ∙ take-append_seam (f v) (flat_map f left')
+pub same_some : {X : Type 0} (x v : X) → Some x ≡ Some v → x ≡ v
+same_some x v e = cc
 
-pub block_rest : (n m : ℕ) (f : ℤ → List Hull) → ((v : ℤ) → length (f v) ≡ n) → (left left' : List ℤ) (v : ℤ) (row rest : List Hull) → m ≡ n →
-    left ≡ v ∷ left' →
-    row ≡ flat_map f left → rest ≡ drop m row → rest ≡ flat_map f left'
-block_rest n m f size left left' v row rest is_m is inv is_rest =
-    let s = size v in let w : m ≡ length (f v) = omega (arith, is_m, s) in
-    is_rest ∙ ap (drop m) (inv ∙ ap (flat_map f) is) ∙ ap (λ k. drop k (f v ++ flat_map f left')) w ∙ drop-append_seam (f v) (flat_map f left')
+pub block_fits : (n m : ℕ) (f : ℤ → List Hull) → ((v : ℤ) → length (f v) ≡ n) → (vs : List ℤ) (i : ℕ) (v : ℤ) (row : List Hull) → m ≡ n →
+    slice_get vs i ≡ Some v → row ≡ flat_map f vs → i * m + m ≤ length row
+block_fits n m f size [] i v row is_m at is = absurd (none_some v at)
+block_fits n m f size (x ∷ vs) zero v row is_m at is =
+    let e = ap length is in let a = length-append (f x) (flat_map f vs) in let s = size x in omega (arith, is_m, e, a, s)
+block_fits n m f size (x ∷ vs) (suc i) v row is_m at is =
+    let e = ap length is in let a = length-append (f x) (flat_map f vs) in let s = size x in
+    let rest = block_fits n m f size vs i v (flat_map f vs) is_m at refl in
+    let w : suc i * m ≡ m + i * m = omega arith in omega (arith, is_m, e, a, s, rest, w)
+
+block_at : (n : ℕ) (f : ℤ → List Hull) → ((v : ℤ) → length (f v) ≡ n) → (vs : List ℤ) (i : ℕ) (v : ℤ) → slice_get vs i ≡ Some v →
+    take n (drop (i * n) (flat_map f vs)) ≡ f v
+block_at n f size [] i v at = absurd (none_some v at)
+block_at n f size (x ∷ vs) zero v at =
+    let s = size x in let z : 0 * n ≡ 0 = omega arith in let w : n ≡ length (f x) = omega (arith, s) in
+    ap (λ k. take n (drop k (f x ++ flat_map f vs))) z ∙ ap (λ k. take k (f x ++ flat_map f vs)) w ∙ take-append_seam (f x) (flat_map f vs)
+    ∙ ap f (same_some x v at)
+block_at n f size (x ∷ vs) (suc i) v at =
+    let s = size x in let w : suc i * n ≡ length (f x) + i * n = (let z : suc i * n ≡ n + i * n = omega arith in omega (arith, s, z)) in
+    ap (λ k. take n (drop k (f x ++ flat_map f vs))) w ∙ ap (take n) (drop-append-add (f x) (flat_map f vs) (i * n)) ∙ block_at n f size vs i v at
+
+pub block_is : (n m : ℕ) (f : ℤ → List Hull) → ((v : ℤ) → length (f v) ≡ n) → (vs : List ℤ) (i : ℕ) (v : ℤ) (row hs : List Hull) → m ≡ n →
+    slice_get vs i ≡ Some v → row ≡ flat_map f vs → hs ≡ slice_range row (i * m) (i * m + m) → hs ≡ f v
+block_is n m f size vs i v row hs is_m at is is_hs =
+    let w : i * m + m - i * m ≡ m = omega arith in
+    is_hs ∙ ap (λ k. take k (drop (i * m) row)) w ∙ ap (λ k. take k (drop (i * k) row)) is_m ∙ ap (λ r. take n (drop (i * n) r)) is
+    ∙ block_at n f size vs i v at
 
 pub length-hulls_at : (b : Body) (before : List (List ℤ)) (v : ℤ) → length (hulls_at b before v) ≡ length b.states
 unfolding hulls_at
@@ -148,6 +164,10 @@ hulls_stand b rules before v hs is q lt =
     subst (λ h. HullStands b (record { state = q; regs = spans_of h }))
     (sym (ap (λ l. get_or l q none) is ∙ get_or-map-range_with_len (hull_at b before v) 0 (length b.states) q q none lt (omega arith)))
     (kept_stands b q (hull_at b before v q) lt (hull_kept b rules before v q))
+
+pub back_length : (o : Option Pair) (behind : List (List ℤ)) (v : ℤ) → length (back_hulls o behind v) ≡ back_states o
+back_length None behind v = refl
+back_length (Some p) behind v = length-hulls_at p.reverse behind v
 
 -- the row of a cell, in the table
 
@@ -210,6 +230,30 @@ module _ (w : Option Range) (cells : List (List ℤ)) (looks : LooksInside (leng
   back_begun (Some p) t row left there is_t is_row is_left =
       read_row (backward_rows p.reverse inner) (hulls_at p.reverse (cells_after (place_in w k) inner)) t row left (length-backward p.reverse inner)
       (back_inner p.reverse inner (place_in w k) bounds.0 bounds.1) there is_t is_row is_left
+
+  -- the hulls of the value v at place i of the cell
+  module _ (i : ℕ) (v : ℤ) (at : slice_get (get_or cells (k - 1) []) i ≡ Some v) (m : ℕ) (row : List Hull) (there : is_looked w k ≡ true) where
+    module _ (b : Body) (t : List (List Hull)) (is_m : m ≡ length b.states) (is_t : t ≡ forward_table b w cells) (is_row : row ≡ get_or t (k - 1) []) where
+      pub ahead_fits : i * m + m ≤ length row
+      ahead_fits =
+          block_fits (length b.states) m (hulls_at b (cells_before (place_in w k) inner)) (length-hulls_at b (cells_before (place_in w k) inner))
+          (get_or cells (k - 1) []) i v row is_m at (ahead_begun b t row (get_or cells (k - 1) []) there is_t is_row refl)
+
+      pub ahead_block : (hs : List Hull) → hs ≡ slice_range row (i * m) (i * m + m) → hs ≡ hulls_at b (cells_before (place_in w k) inner) v
+      ahead_block hs is =
+          block_is (length b.states) m (hulls_at b (cells_before (place_in w k) inner)) (length-hulls_at b (cells_before (place_in w k) inner))
+          (get_or cells (k - 1) []) i v row hs is_m at (ahead_begun b t row (get_or cells (k - 1) []) there is_t is_row refl) is
+
+    module _ (p : Option Pair) (t : List (List Hull)) (is_m : m ≡ back_states p) (is_t : AreBackRows p w cells t) (is_row : row ≡ get_or t (k - 1) []) where
+      pub back_fits : i * m + m ≤ length row
+      back_fits =
+          block_fits (back_states p) m (back_hulls p (cells_after (place_in w k) inner)) (back_length p (cells_after (place_in w k) inner))
+          (get_or cells (k - 1) []) i v row is_m at (back_begun p t row (get_or cells (k - 1) []) there is_t is_row refl)
+
+      pub back_block : (hs : List Hull) → hs ≡ slice_range row (i * m) (i * m + m) → hs ≡ back_hulls p (cells_after (place_in w k) inner) v
+      back_block hs is =
+          block_is (back_states p) m (back_hulls p (cells_after (place_in w k) inner)) (back_length p (cells_after (place_in w k) inner))
+          (get_or cells (k - 1) []) i v row hs is_m at (back_begun p t row (get_or cells (k - 1) []) there is_t is_row refl) is
 
   row_of_all : (rows t : List (List Hull)) → length rows ≡ length inner → t ≡ windowed w (length cells) rows → IsRow k t
   row_of_all rows t long is =

@@ -1,12 +1,12 @@
 //! The spans of a machine at a cell.
 
-ghost use Rattle.std.specs.Prelude.{◌≡◌, Contains, IsSome, IsTrue, MatchOption, length, map};
+ghost use Rattle.std.specs.Prelude.{◌≡◌, ◌+◌, ◌*◌, ◌≤◌, Contains, IsSome, IsTrue, MatchOption, Some, length, slice_get, slice_range};
 ghost use Rattle.ts_automaton.specs.Typing.{is_automaton};
-ghost use Rattle.ts_bound.specs.Blocks.{AreBackRows, OfReverse, back_states, last_at, split_at};
 ghost use Rattle.ts_base.specs.Windows.{looked_at};
+ghost use Rattle.ts_bound.specs.Blocks.{AreBackRows, OfReverse, back_states};
 ghost use Rattle.ts_bound.specs.HullTables.{forward_table};
 ghost use Rattle.ts_bound.specs.Looks.{is_looked, place_in};
-ghost use Rattle.ts_bound.specs.TermSpans.{LooksIn, automata_of, span_of_all, term_span, value_span};
+ghost use Rattle.ts_bound.specs.TermSpans.{LooksIn, automata_of, inner_value_span, term_span, value_span};
 ghost use Rattle.ts_domain.specs.BoxSeries.{IsCell, cell_of};
 ghost use Rattle.ts_glue.specs.Machines.{forward_of, pair_of, window_of};
 
@@ -14,6 +14,7 @@ use crate::block::{finish_block, glue_block};
 use crate::laws::machine_is_whole;
 use crate::looks::{is_looked, looked_count, read_at};
 use crate::table::HullTable;
+use ts_automaton::Hull;
 use ts_base::Span;
 use ts_domain::Boxed;
 use ts_glue::Machine;
@@ -35,13 +36,12 @@ pub fn term_span(
     ensures { result ≡ term_span (automata_of m.now) p cells.now.present }
 {
     let k = read_at(m.window(), p);
-    match back {
-        Some(back) => split_span(m, ahead, back, cells, k),
-        None => {
-            machine_is_whole(m);
-            last_span(m, ahead, cells, k)
-        }
+    let values = cells.cell(k);
+    let mut span = Span::none();
+    for i in 0..values.size() {
+        span = span.hull(span_at(m, ahead, back, cells, k, i, values.nth(i)));
     }
+    span
 }
 
 /// The span at cell `p` of the box with the value `v` alone there, from the tables of the whole box; at a cell outside
@@ -65,120 +65,57 @@ pub fn value_span(
     if !is_looked(m.window(), p) {
         return term_span(m, ahead, back, cells, p);
     }
-    match back {
-        Some(back) => split_value(m, ahead, back, cells, p, v),
-        None => {
-            machine_is_whole(m);
-            last_value(m, ahead, cells, p, v)
-        }
-    }
+    let place = cells.cell(p).place_of(v);
+    span_at(m, ahead, back, cells, p, place, v)
 }
 
-/// The hull of the finish spans at the values of a cell that is looked at.
-fn last_span(m: &Machine, ahead: &HullTable, cells: &Boxed, k: u32) -> Span
-    requires cell { IsCell k cells.now }
-    requires looked { IsTrue (is_looked (window_of m.now) k) }
-    requires looks { LooksIn (automata_of m.now) cells.now.present }
-    requires ahead { ahead.now ≡ forward_table (forward_of m.now) (window_of m.now) cells.now.present }
-    ensures { result ≡ span_of_all (map (last_at (forward_of m.now) (place_in (window_of m.now) k)
-        (looked_at (window_of m.now) cells.now.present)) (cell_of k cells.now)) }
-{
-    let a = m.forward();
-    let n = looked_count(m.window(), cells.cells());
-    let states = a.states() as usize;
-    let mut row = ahead.row(k);
-    let mut span = Span::none();
-    for _value in cells.cell(k).values() {
-        let (hulls, rest) = row.split_at(states);
-        span = span.hull(finish_block(a, hulls, n));
-        row = rest;
-    }
-    span
-}
-
-/// The finish span at one value.
-fn last_value(m: &Machine, ahead: &HullTable, cells: &Boxed, k: u32, v: i64) -> Span
-    requires cell { IsCell k cells.now }
-    requires looked { IsTrue (is_looked (window_of m.now) k) }
-    requires looks { LooksIn (automata_of m.now) cells.now.present }
-    requires ahead { ahead.now ≡ forward_table (forward_of m.now) (window_of m.now) cells.now.present }
-    requires value { Contains (cell_of k cells.now) v }
-    ensures { result ≡ last_at (forward_of m.now) (place_in (window_of m.now) k)
-        (looked_at (window_of m.now) cells.now.present) v }
-{
-    let a = m.forward();
-    let n = looked_count(m.window(), cells.cells());
-    let states = a.states() as usize;
-    let mut row = ahead.row(k);
-    for value in cells.cell(k).values() {
-        let (hulls, rest) = row.split_at(states);
-        if value == v {
-            return finish_block(a, hulls, n);
-        }
-        row = rest;
-    }
-    unreachable!()
-}
-
-/// The hull of the glued spans at the values of a cell that is looked at.
-fn split_span(m: &Machine, ahead: &HullTable, back: &HullTable, cells: &Boxed, k: u32) -> Span
-    requires cell { IsCell k cells.now }
-    requires looked { IsTrue (is_looked (window_of m.now) k) }
-    requires looks { LooksIn (automata_of m.now) cells.now.present }
-    requires ahead { ahead.now ≡ forward_table (forward_of m.now) (window_of m.now) cells.now.present }
-    requires back { AreBackRows (pair_of m.now) (window_of m.now) cells.now.present back.now }
-    ensures { result ≡ span_of_all (map (split_at (forward_of m.now) (pair_of m.now) (place_in (window_of m.now) k)
-        (looked_at (window_of m.now) cells.now.present)) (cell_of k cells.now)) }
-{
-    let n = looked_count(m.window(), cells.cells());
-    let states = m.forward().states() as usize;
-    let back_states = reverse_states(m);
-    let mut row = ahead.row(k);
-    let mut back_row = back.row(k);
-    let mut span = Span::none();
-    for value in cells.cell(k).values() {
-        let (left, rest) = row.split_at(states);
-        let (right, back_rest) = back_row.split_at(back_states as usize);
-        span = span.hull(glue_block(m, left, right, back_states, value, n));
-        row = rest;
-        back_row = back_rest;
-    }
-    span
-}
-
-/// The glued span at one value.
-fn split_value(
+/// The span of the value `v`, which is at place `i` of a cell that is looked at.
+fn span_at(
     m: &Machine,
     ahead: &HullTable,
-    back: &HullTable,
+    back: Option<&HullTable>,
     cells: &Boxed,
     k: u32,
+    i: u64,
     v: i64,
 ) -> Span
     requires cell { IsCell k cells.now }
     requires looked { IsTrue (is_looked (window_of m.now) k) }
+    requires value { slice_get (cell_of k cells.now) i ≡ Some v }
     requires looks { LooksIn (automata_of m.now) cells.now.present }
     requires ahead { ahead.now ≡ forward_table (forward_of m.now) (window_of m.now) cells.now.present }
-    requires back { AreBackRows (pair_of m.now) (window_of m.now) cells.now.present back.now }
-    requires value { Contains (cell_of k cells.now) v }
-    ensures { result ≡ split_at (forward_of m.now) (pair_of m.now) (place_in (window_of m.now) k)
+    requires back { MatchOption back
+        (place_in (window_of m.now) k ≡ length (looked_at (window_of m.now) cells.now.present))
+        (λ t. AreBackRows (pair_of m.now) (window_of m.now) cells.now.present t.now) }
+    ensures { result ≡ inner_value_span (automata_of m.now) (place_in (window_of m.now) k)
         (looked_at (window_of m.now) cells.now.present) v }
 {
     let n = looked_count(m.window(), cells.cells());
-    let states = m.forward().states() as usize;
-    let back_states = reverse_states(m);
-    let mut row = ahead.row(k);
-    let mut back_row = back.row(k);
-    for value in cells.cell(k).values() {
-        let (left, rest) = row.split_at(states);
-        let (right, back_rest) = back_row.split_at(back_states as usize);
-        if value == v {
-            return glue_block(m, left, right, back_states, value, n);
+    let a = m.forward();
+    let row = ahead.row(k);
+    let left = block(row, a.states(), i);
+    match back {
+        Some(back) => {
+            let states = reverse_states(m);
+            let back_row = back.row(k);
+            let right = block(back_row, states, i);
+            glue_block(m, left, right, states, v, n)
         }
-        row = rest;
-        back_row = back_rest;
+        None => {
+            machine_is_whole(m);
+            finish_block(a, left, n)
+        }
     }
-    unreachable!()
+}
+
+/// The hulls of the value at place `i`, one for each state, of a row.
+fn block(row: &[Hull], states: u8, i: u64) -> &[Hull]
+    requires { i * states + states ≤ length row.now }
+    ensures { result.now ≡ slice_range row.now (i * states) (i * states + states) }
+{
+    let states = states as usize;
+    let from = i as usize * states;
+    &row[from..from + states]
 }
 
 /// The number of states of the reverse automaton.
