@@ -6,7 +6,6 @@ pub mod LendsRows
 pub mod TermSpans
 pub mod Laws
 pub mod Blocks
-pub mod Packables
 pub mod Moves
 pub mod PackedRows
 pub mod CellLists

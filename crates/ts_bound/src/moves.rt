@@ -1,12 +1,9 @@
 //! The moves of a state: each is taken in by a sweep over both cells, where that is exact, else by pairs of values.
 
-ghost use Rattle.std.specs.Prelude.{◌≡◌, ◌<◌, ◌≤◌, true, false, length};
+ghost use Rattle.std.specs.Prelude.{◌≡◌, ◌<◌, true, false, length};
 ghost use Rattle.ts_automaton.specs.Body.{move_of, move_on, node_of};
-ghost use Rattle.ts_automaton.specs.Formula.{is_zero};
-ghost use Rattle.ts_automaton.specs.Registers.{rests};
 ghost use Rattle.ts_bound.specs.Moves.{IsNextRow, Stands, states_in, with_all, with_turn};
 ghost use Rattle.ts_hull.specs.Sealed.{move_at};
-ghost use Rattle.ts_sweep.specs.Packed.{is_wide};
 
 use crate::between::Between;
 use crate::pairs::pair_move;
@@ -33,31 +30,20 @@ fn turn(a: &Automaton, q: u8, l: Letter) -> &Turn
     requires { q < length a.now.states }
     ensures value { move_of result.now ≡ move_at a.now q l }
     ensures exists { result.now.next < length a.now.states }
-    ensures rests { rests is_zero a.now.wide (move_of result.now).to ≡ true }
 {
     turn_on(a.state(q), l)
 }
 
-/// Takes in a move of a state by a sweep over lanes of the automaton's width, if it can be swept and no number is so
-/// large that its sums are clamped.
-fn sweep_lanes<const N: usize>(
-    m: &Between<'_>,
-    t: &Turn,
-    q: u8,
-    l: Letter,
-    next: &mut [Hull],
-) -> bool
-    requires registers { 6 ≤ N }
-    requires lanes { N ≤ 64 }
-    requires width { is_wide N ≡ m.now.automaton.now.wide }
+/// Takes in a move of a state by a sweep, if it can be swept and no number is so large that its sums are clamped. It
+/// goes over ten lanes, which have a place for each register of any automaton.
+fn sweep_move(m: &Between<'_>, t: &Turn, q: u8, l: Letter, next: &mut [Hull]) -> bool
     requires state { q < states_in m.now }
     requires leads { t.now.next < states_in m.now }
-    requires rests { rests is_zero m.now.automaton.now.wide (move_of t.now).to ≡ true }
     requires next { IsNextRow m.now next.old }
     ensures taken { result ≡ true → next.new ≡ with_turn m.now (move_of t.now) q l next.old }
     ensures kept { result ≡ false → next.new ≡ next.old }
 {
-    if !m.is_packable {
+    if !m.is_small {
         return false;
     }
     let Some(by) = swept_parts(t) else {
@@ -74,7 +60,7 @@ fn sweep_lanes<const N: usize>(
         states,
         count: m.next_values.count,
     };
-    take_row::<N, AnyParts<'_>, Places<'_>, Places<'_>>(
+    take_row::<10, AnyParts<'_>, Places<'_>, Places<'_>>(
         by,
         l,
         false,
@@ -85,23 +71,6 @@ fn sweep_lanes<const N: usize>(
         to,
         next,
     )
-}
-
-/// Takes in a move of a state by a sweep over as many lanes as the automaton needs, if it can be swept and no sum is
-/// clamped.
-fn sweep_move(m: &Between<'_>, t: &Turn, q: u8, l: Letter, next: &mut [Hull]) -> bool
-    requires state { q < states_in m.now }
-    requires leads { t.now.next < states_in m.now }
-    requires rests { rests is_zero m.now.automaton.now.wide (move_of t.now).to ≡ true }
-    requires next { IsNextRow m.now next.old }
-    ensures taken { result ≡ true → next.new ≡ with_turn m.now (move_of t.now) q l next.old }
-    ensures kept { result ≡ false → next.new ≡ next.old }
-{
-    if m.automaton.wide() {
-        sweep_lanes::<10>(m, t, q, l, next)
-    } else {
-        sweep_lanes::<6>(m, t, q, l, next)
-    }
 }
 
 /// Takes in the move of a state on a letter.

@@ -6,7 +6,7 @@ ghost use Rattle.ts_hull.specs.Hulls.{none};
 
 use crate::between::Between;
 use crate::moves::take_state;
-use crate::packable::are_packable;
+use crate::packable::are_small;
 use crate::places::Places;
 use ts_automaton::{Automaton, Hull};
 use ts_domain::Domain;
@@ -16,8 +16,7 @@ use ts_domain::Domain;
 /// hulls of `before` are none or have the kinds of their states. It takes no memory. The steps are in proportion to the
 /// values of both cells for each move that sweeps take in (`swept_parts`: the next cell is at most the last operand of
 /// an expression), and to their pairs for the others; and to their pairs for all where a hull of `before` has a number
-/// above 10^16 in size, or one of a narrow automaton has something else than 0 in E or F, which no row has that was
-/// filled here. A cell whose values have gaps costs a search by halving for each value beside that.
+/// above 10^16 in size. A cell whose values have gaps costs a search by halving for each value beside that.
 pub fn fill_row(
     a: &Automaton,
     before_values: &Domain,
@@ -34,7 +33,7 @@ pub fn fill_row(
         automaton: a,
         values: Places::of(before_values),
         before,
-        is_packable: are_packable(a, before),
+        is_small: are_small(before),
         next_values: Places::of(values),
     };
     clear(next);

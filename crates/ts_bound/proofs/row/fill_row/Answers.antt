@@ -1,14 +1,13 @@
 use Rattle.std.proofs.Common.{length, sym, ap, ◌∙◌, ◌*◌, arith}
 use Rattle.ts_hull.specs.Sweeps.{with_state}
-use Rattle.ts_bound.proofs.PackableLaws.{row_packable}
 use Rattle.ts_bound.proofs.SweptRows.{states_begun, states_more, states_done, states_next}
 use Rattle.ts_bound.proofs.row.fill_row.Goals as goal
 
 pub invariant_of-m-clause-whole : goal.invariant_of-m-clause-whole
 invariant_of-m-clause-whole c = c.requires.before ∙ ap (λ z. length z * length c.args.a.now.states) (sym c.of.ensures)
 
-pub invariant_of-m-clause-packable : goal.invariant_of-m-clause-packable
-invariant_of-m-clause-packable c e = row_packable c.args.a.now.wide c.args.before.now (sym c.are_packable.ensures ∙ e)
+pub invariant_of-m-clause-small : goal.invariant_of-m-clause-small
+invariant_of-m-clause-small c e = sym c.are_small.ensures ∙ e
 
 pub loop-q-init : goal.loop-q-init
 loop-q-init c = states_begun c.args.a.now c.args.before_values.now c.args.before.now c.args.values.now c.clear.new.row

@@ -1,27 +1,21 @@
-use Rattle.std.proofs.Common.{refl, sym, ap, ◌∙◌, subst, ◌≡◌, true}
+use Rattle.std.proofs.Common.{refl, sym, ap, ◌∙◌, true}
 use Rattle.ts_automaton.specs.Body.{move_of}
-use Rattle.ts_automaton.specs.Formula.{is_zero}
-use Rattle.ts_automaton.specs.Registers.{rests}
 use Rattle.ts_sweep.specs.Moves.{of_width}
-use Rattle.ts_sweep.specs.Sides.{has_wide}
-use Rattle.ts_sweep.specs.SidesLaws.{full_wide}
 use Rattle.ts_sweep.proofs.Widths.{width_cut}
 use Rattle.ts_bound.specs.Moves.{states_in}
+use Rattle.ts_bound.proofs.PackableLaws.{row_packable}
 use Rattle.ts_bound.proofs.PutLaws.{swept_move}
-use Rattle.ts_bound.proofs.moves.sweep_lanes.Goals as goal
+use Rattle.ts_bound.proofs.moves.sweep_move.Goals as goal
 
 pub returns-clause-taken : goal.returns-clause-taken
-returns-clause-taken g c e =
+returns-clause-taken c e =
     let m = c.args.m.now in
     let move = move_of c.args.t.now in
-    let wide = has_wide g.row.N in
-    let cut = width_cut wide move
-    (subst (λ w. rests is_zero w move.to ≡ true) (sym (full_wide g.row.N c.requires.registers ∙ c.requires.width)) c.requires.rests)
-    ∙ ap (of_width wide) (sym c.in-Some.ensures.1) in
+    let cut = width_cut true move refl ∙ ap (of_width true) (sym c.in-Some.ensures.1) in
     swept_move move c.args.l c.states-states.result (states_in m) c.args.q m.values.count m.next_values.count
     m.values.domain.now m.before.now m.next_values.domain.now c.args.next.now c.take_row.new.next
     c.states-states.ensures.count m.values.counted m.next_values.counted
     (λ h is. c.take_row.ensures.taken e move h refl cut c.in-Some.ensures.0 is)
 
 pub take_row-requires-clause-packable : goal.take_row-requires-clause-packable
-take_row-requires-clause-packable g c = c.args.m.now.packable c.if-not-m.false g.row.N c.requires.width
+take_row-requires-clause-packable c = row_packable c.args.m.now.before.now (c.args.m.now.small c.if-not-m.false)
