@@ -1,8 +1,7 @@
 -- The row of the cell at which runs start.
-use Rattle.std.proofs.Common.{◌≡◌, ◌⊎◌, inl, inr, cond, ℕ, zero, suc, ◌+◌, ◌*◌, ◌<◌, ◌≤◌, ℤ, List, [], length, get_or, set, refl, sym, ◌∙◌, ap, arith}
+use Rattle.std.proofs.Common.{◌≡◌, ◌⊎◌, inl, inr, cond, ℕ, zero, suc, ◌+◌, ◌*◌, ◌<◌, ◌≤◌, ℤ, List, [], length, get_or, set, replicate, refl, sym, ◌∙◌, ap, arith}
 use Rattle.std.proofs.Math.Dec.{eqb-suc-zero}
-use Rattle.std.proofs.lemmas.Bool.{cases_lt}
-use Rattle.std.proofs.lemmas.List.{get_or_past, get_or-set_other, get_or-set_same, length-set}
+use Rattle.std.proofs.lemmas.List.{get_or-set_other, get_or-set_same, length-set}
 use Rattle.ts_automaton.specs.declared.regs.Hull.{Hull}
 use Rattle.ts_automaton.specs.Body.{Body}
 use Rattle.ts_automaton.specs.SpanRun.{one_hull}
@@ -14,33 +13,14 @@ use Rattle.ts_bound.proofs.SweptRows.{row_by_places}
 before_or : (j i : ℕ) → j < i + 1 → (j < i) ⊎ (j ≡ i)
 before_or j i h = grind arith
 
--- of the hulls of a row the first p are none
-pub record IsCleared (first : List Hull) (p : ℕ) (row : List Hull) : Type 0 where
-  pub long : length row ≡ length first
-  pub each : (k : ℕ) → k < p → get_or row k none ≡ none
-
-pub cleared_none : (first : List Hull) → IsCleared first 0 first
-cleared_none first = record { long = refl; each = λ k lt. absurd (omega (arith, lt)) }
-
-pub cleared_more : (first : List Hull) (p : ℕ) (row new : List Hull) (h : Hull) → p < length first → h ≡ none → new ≡ set row p h → IsCleared first p row →
-    IsCleared first (p + 1) new
-cleared_more first p row new h inside is_h is so_far = record {
-  long = ap length is ∙ length-set row p h ∙ so_far.long;
-  each = λ k lt. go k (before_or k p lt);
-}
+-- each hull of a row that was filled with none is none
+pub all_none : (n : ℕ) (h : Hull) (row : List Hull) → row ≡ replicate n h → h ≡ none → (p : ℕ) → get_or row p none ≡ none
+all_none n h row is e p = ap (λ r. get_or r p none) (is ∙ ap (replicate n) e) ∙ go n p
   where
-    go : (k : ℕ) → (k < p) ⊎ (k ≡ p) → get_or new k none ≡ none
-    go k (inl less) = ap (λ z. get_or z k none) is ∙ get_or-set_other row p k h none (λ e. omega (arith, e, less)) ∙ so_far.each k less
-    go k (inr e) =
-        let long = so_far.long in
-        ap (λ z. get_or z k none) is ∙ ap (λ z. get_or (set row p h) z none) e ∙ get_or-set_same row p h none (omega (arith, long, inside)) ∙ is_h
-
-pub cleared_all : (first : List Hull) (p : ℕ) (row : List Hull) → length first ≤ p → IsCleared first p row → (k : ℕ) → get_or row k none ≡ none
-cleared_all first p row all so_far k = go (cases_lt k p)
-  where
-    go : (k < p) ⊎ (p ≤ k) → get_or row k none ≡ none
-    go (inl lt) = so_far.each k lt
-    go (inr le) = let long = so_far.long in get_or_past row k none (omega (arith, long, all, le))
+    go : (n p : ℕ) → get_or (replicate n none) p none ≡ none
+    go zero p = refl
+    go (suc n) zero = refl
+    go (suc n) (suc p) = go n p
 
 -- the hulls of the first i of n values are those of the start, and the others none
 pub record IsStarted (b : Body) (n i : ℕ) (row : List Hull) : Type 0 where

@@ -1,8 +1,7 @@
 //! One row of hulls from the row before.
 
-ghost use Rattle.std.specs.Prelude.{◌≡◌, ◌*◌, ℕ, length, get_or};
+ghost use Rattle.std.specs.Prelude.{◌≡◌, ◌*◌, length};
 ghost use Rattle.ts_bound.specs.NextRow.{RowStands, next_row};
-ghost use Rattle.ts_hull.specs.Hulls.{none};
 
 use crate::between::Between;
 use crate::moves::take_state;
@@ -36,18 +35,8 @@ pub fn fill_row(
         is_small: are_small(before),
         next_values: Places::of(values),
     };
-    clear(next);
+    next.fill(Hull::none());
     for q in 0..a.states() {
         take_state(&m, q, next);
-    }
-}
-
-/// Every hull becomes none.
-pub(crate) fn clear(row: &mut [Hull])
-    ensures len { length row.new ≡ length row.old }
-    ensures each { (p : ℕ) → get_or row.new p none ≡ none }
-{
-    for p in 0..row.len() {
-        row[p] = Hull::none();
     }
 }

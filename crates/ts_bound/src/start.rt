@@ -3,7 +3,6 @@
 ghost use Rattle.std.specs.Prelude.{◌≡◌, ◌*◌, [], length};
 ghost use Rattle.ts_bound.specs.HullTables.{row_of};
 
-use crate::row::clear;
 use ts_automaton::{Automaton, Hull};
 use ts_domain::Domain;
 
@@ -15,7 +14,7 @@ pub(crate) fn fill_start(a: &Automaton, values: &Domain, row: &mut [Hull])
 {
     let states = a.states() as usize;
     let hull = Hull::one(a.start().regs);
-    clear(row);
+    row.fill(Hull::none());
     for i in 0..values.size() as usize {
         row[i * states] = hull;
     }

@@ -1,11 +1,15 @@
-use Rattle.std.proofs.Common.{length, refl, ap, ◌∙◌, ◌*◌, arith}
+use Rattle.std.proofs.Common.{◌≡◌, length, replicate, rules, refl, ap, ◌∙◌, ◌*◌, arith}
+use Rattle.std.proofs.lemmas.List.{places}
 use Rattle.ts_automaton.specs.SpanRun.{one_hull}
 use Rattle.ts_hull.specs.Hulls.{hull_of}
-use Rattle.ts_bound.proofs.Starts.{started_none, started_more, started_all}
+use Rattle.ts_bound.proofs.Starts.{all_none, started_none, started_more, started_all}
 use Rattle.ts_bound.proofs.start.fill_start.Goals as goal
 
 pub loop-i-init : goal.loop-i-init
-loop-i-init c = started_none c.args.a.now (length c.args.values.now) c.clear.new.row (c.clear.ensures.len ∙ c.requires) c.clear.ensures.each
+loop-i-init c =
+    let filled : c.fill.new.self ≡ replicate (length c.args.row.now) c.none.result = search (rules, places) in
+    started_none c.args.a.now (length c.args.values.now) c.fill.new.self (c.fill.ensures.len ∙ c.requires)
+    (all_none (length c.args.row.now) c.none.result c.fill.new.self filled (ap hull_of c.none.ensures))
 
 pub loop-i-preserved : goal.loop-i-preserved
 loop-i-preserved c =
