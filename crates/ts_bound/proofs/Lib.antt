@@ -2,11 +2,11 @@ pub mod Looking
 pub mod RowLaws
 mod Emptied
 pub mod TableLaws
-pub mod WindowedTables
 mod Steps
 mod Follows
 pub mod Reached
 pub mod SpanRuns
+mod Filled
 pub mod SpanEnds
 pub mod Singles
 pub mod Growth

@@ -1,7 +1,7 @@
 -- The cells that are looked at: where each of them stands, and the rows of all cells where these have rows.
-use Rattle.std.proofs.Common.{◌≡◌, ℕ, zero, suc, ◌+◌, ◌-◌, ◌<◌, ◌≤◌, ◌⊎◌, inl, inr, ⊎_elim, ℤ, Bool, true, false, cond, ◌&&◌, nat_le, Option, Some, None, List, [], ◌∷◌, ◌++◌, length, map, take, drop, set, get_or, replicate, refl, sym, ap, ◌∙◌, subst, arith}
+use Rattle.std.proofs.Common.{◌≡◌, ℕ, ◌+◌, ◌-◌, ◌<◌, ◌≤◌, ◌⊎◌, inl, inr, ⊎_elim, ℤ, Bool, true, false, cond, ◌&&◌, nat_le, Option, Some, None, List, [], ◌++◌, length, map, take, drop, set, get_or, replicate, refl, sym, ap, ◌∙◌, subst, arith}
 use Rattle.std.proofs.lemmas.Bool.{leb-true, leb-false, le-leb}
-use Rattle.std.proofs.lemmas.List.{length-append, length-replicate, take-set-le, drop-set-lt, drop-set-add, get_or-take, get_or-drop, get_or_append_left, get_or-append-add, get_or-replicate, set-append_left, set-append_right, map-append, take-map, drop-map}
+use Rattle.std.proofs.lemmas.List.{length-append, length-replicate, take-set-le, drop-set-lt, drop-set-add, get_or-take, get_or-drop, get_or_append_left, get_or-append-add, get_or-replicate, take-map, drop-map}
 use Rattle.std.proofs.Math.Seq.{take-set-lt}
 use Rattle.ts_base.specs.declared.range.Range.{Range}
 use Rattle.ts_base.specs.Windows.{LooksInside, cells_of, looked_at}
@@ -204,27 +204,3 @@ module _ {X : Type 0} (n : ℕ) (rows : List (List X)) where
         ∙ ap (λ j. get_or (rows ++ replicate (n - r.last) []) j []) on ∙ get_or-append-add rows (replicate (n - r.last) []) j []
         ∙ get_or-replicate (n - r.last) j [] [] (omega (arith, high, few)))
         (outside_bounds r k is)
-
-    pub windowed_set : (w : Option Range) (row : List X) → LooksInside n w → length rows ≡ count_looked w n → is_looked w k ≡ true →
-        set (windowed w n rows) (k - 1) row ≡ windowed w n (set rows (place_in w k - 1) row)
-    windowed_set None row h l is = let e : k - 1 ≡ k - (1 - 1) - 1 = omega arith in ap (λ i. set rows i row) e
-    windowed_set (Some r) row h l is =
-        let b = inside_bounds r k is in let low = b.0 in let high = b.1 in let first = h.0 in
-        let f = r.first - 1 in
-        let i = k - 1 - f in
-        let at : i ≡ k - f - 1 = omega arith in
-        set-append_right (before r) (rows ++ replicate (n - r.last) []) f (k - 1) row (before_length r) (omega (arith, low, first))
-        ∙ ap (λ t. before r ++ t) (set-append_left rows (replicate (n - r.last) []) i row (omega (arith, l, low, high, first))
-        ∙ ap (λ j. set rows j row ++ replicate (n - r.last) []) (at ∙ ap (λ p. p - 1) (sym (place_inside (Some r) k is))))
-
-pub windowed_map : {X Y : Type 0} (f : List X → List Y) (w : Option Range) (n : ℕ) (rows : List (List X)) → f [] ≡ [] →
-    map f (windowed w n rows) ≡ windowed w n (map f rows)
-windowed_map f None n rows e = refl
-windowed_map f (Some r) n rows e =
-    map-append f (replicate (r.first - 1) []) (rows ++ replicate (n - r.last) [])
-    ∙ ap (λ t. t ++ map f (rows ++ replicate (n - r.last) [])) (nothing (r.first - 1))
-    ∙ ap (λ t. replicate (r.first - 1) [] ++ t) (map-append f rows (replicate (n - r.last) []) ∙ ap (λ t. map f rows ++ t) (nothing (n - r.last)))
-  where
-    nothing : (m : ℕ) → map f (replicate m []) ≡ replicate m []
-    nothing zero = refl
-    nothing (suc m) = ap (λ x. x ∷ map f (replicate m [])) e ∙ ap (λ t. [] ∷ t) (nothing m)

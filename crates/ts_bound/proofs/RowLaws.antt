@@ -1,7 +1,7 @@
 -- Rows in one list: where they begin, and what they are after one was written.
 use Rattle.std.proofs.Common.{◌≡◌, ℕ, zero, suc, ◌+◌, ◌-◌, ◌<◌, ◌≤◌, List, [], ◌∷◌, ◌++◌, length, take, drop, set, get_or, slice_get, Some, refl, sym, ap, ◌∙◌, arith}
 use Rattle.std.specs.Prelude.{slice_range}
-use Rattle.std.proofs.lemmas.List.{take-append-le, take_all, append_assoc, length-append, drop_all, length-drop, length-take-le, drop-take, set-get_or, take-take}
+use Rattle.std.proofs.lemmas.List.{take-append-le, take_all, append_assoc, length-append, drop_all, length-drop, length-take-le, drop-take, take-take}
 use Rattle.std.proofs.lemmas.Option.{get_or_from_slice_get}
 use Rattle.std.proofs.lemmas.List.Folds.{drop_split}
 use Rattle.std.proofs.Math.Seq.{drop-append_seam, drop-append-add, take-append_seam, take-append-add}
@@ -125,6 +125,13 @@ pub two_written : {X : Type 0} (t : List (List X)) (i : ℕ) (a b : List X) → 
     with_written t i (a ++ b) ≡ set (set t i a) (suc i) b
 two_written t i a b h e f =
     written t (set (set t i a) (suc i) b) i (a ++ b) (same_set t (set t i a) (suc i) b (same_set t t i a (same_self t) e) f) (over_two t i a b h e f)
+
+-- so of the rows of cells k and k + 1
+pub rows_written : {X : Type 0} (t : List (List X)) (k : ℕ) (a b : List X) → 1 ≤ k → k + 1 ≤ length t → length a ≡ length (row_at k t) →
+    length b ≡ length (row_at (k + 1) t) → with_written t (k - 1) (a ++ b) ≡ set (set t (k - 1) a) k b
+rows_written t k a b some few e f =
+    let back : suc (k - 1) ≡ k = omega (arith, some) in let on : (k + 1) - 1 ≡ suc (k - 1) = omega (arith, some) in
+    two_written t (k - 1) a b (omega (arith, some, few)) e (f ∙ ap (λ i. length (get_or t i [])) on) ∙ ap (λ i. set (set t (k - 1) a) i b) back
 
 -- the vector and the starts
 
@@ -276,28 +283,6 @@ second_row v k n r a first last wide is_r is_a =
     let all : place v (k + 1) - place v (k - 1) ≡ n + left = omega (arith, wide, f, more) in
     row_got v k (omega (arith, last)) ∙ ap Some (sym (is_a ∙ ap (drop n) is_r ∙ ap (λ w. drop n (take w D)) all ∙ drop-take n left D ∙
     ap (λ t. take left (drop t D)) m ∙ ap (take left) (drop_drop (concat_rows v) (place v (k - 1)) (place v k) (omega (arith, wide)))))
-
--- what was lent as one and cut at n: the row of cell k as it was, and that of cell k + 1 written
-pub next_written : {X : Type 0} (v : List (List X)) (k n : ℕ) (r a b b' : List X) → 1 ≤ k → k + 1 ≤ length v → place v (k - 1) + n ≡ place v k →
-    r ≡ slice_range (concat_rows v) (place v (k - 1)) (place v (k + 1)) →
-    a ≡ take n r → b ≡ drop n r → length b' ≡ length b → with_written v (k - 1) (a ++ b') ≡ set v k b'
-next_written v k n r a b b' first last wide is_r is_a is_b long =
-    let e : suc (k - 1) ≡ k = omega (arith, first) in
-    let before : get_or v (k - 1) [] ≡ a = get_or_from_slice_get v (k - 1) a [] (first_row v k n r a first last wide is_r is_a) in
-    let next : get_or v (suc (k - 1)) [] ≡ b = ap (λ i. get_or v i []) e ∙ get_or_from_slice_get v k b [] (second_row v k n r b first last wide is_r is_b) in
-    two_written v (k - 1) a b' (omega (arith, first, last)) (sym (ap length before)) (long ∙ sym (ap length next)) ∙
-    ap (λ i. set (set v (k - 1) a) i b') e ∙ ap (λ x. set (set v (k - 1) x) k b') (sym before) ∙ ap (λ t. set t k b') (set-get_or v (k - 1) [])
-
--- the same where both were written
-pub both_written : {X : Type 0} (v : List (List X)) (k n : ℕ) (r a b a' b' : List X) → 1 ≤ k → k + 1 ≤ length v → place v (k - 1) + n ≡ place v k →
-    r ≡ slice_range (concat_rows v) (place v (k - 1)) (place v (k + 1)) →
-    a ≡ take n r → b ≡ drop n r → length a' ≡ length a → length b' ≡ length b → with_written v (k - 1) (a' ++ b') ≡ set (set v (k - 1) a') k b'
-both_written v k n r a b a' b' first last wide is_r is_a is_b long_a long_b =
-    let e : suc (k - 1) ≡ k = omega (arith, first) in
-    let before : get_or v (k - 1) [] ≡ a = get_or_from_slice_get v (k - 1) a [] (first_row v k n r a first last wide is_r is_a) in
-    let next : get_or v (suc (k - 1)) [] ≡ b = ap (λ i. get_or v i []) e ∙ get_or_from_slice_get v k b [] (second_row v k n r b first last wide is_r is_b) in
-    two_written v (k - 1) a' b' (omega (arith, first, last)) (long_a ∙ sym (ap length before)) (long_b ∙ sym (ap length next))
-    ∙ ap (λ i. set (set v (k - 1) a') i b') e
 
 -- the row of cell k, and that of cell k + 1, out of what was lent as one
 pub row_before : {X : Type 0} (v : List (List X)) (k n : ℕ) (r a : List X) → 1 ≤ k → k + 1 ≤ length v → place v (k - 1) + n ≡ place v k →

@@ -36,7 +36,7 @@ use Rattle.ts_bound.specs.Blocks.{standing_of, HullsStand, finishes, glued_with,
 use Rattle.ts_bound.specs.Looks.{is_looked, read_at, place_in}
 use Rattle.ts_hull.proofs.HullLaws.{IsCanonical, hull_canonical}
 use Rattle.ts_bound.proofs.Looking.{looked_length, looked_get, place_end, place_read, read_inside_box}
-use Rattle.ts_bound.proofs.SpanRuns.{length-hulls_at, hulls_stand, none_some, same_some}
+use Rattle.ts_bound.proofs.SpanRuns.{hulls_stand, none_some, same_some}
 
 -- lists over a range that agree at each place
 

@@ -17,7 +17,7 @@ use Rattle.ts_automaton.specs.SpanRun.{HullStands, finish_span_of}
 use Rattle.ts_glue.specs.Pairs.{Pair}
 use Rattle.ts_glue.specs.Glued.{glued_span}
 use Rattle.ts_hull.specs.Hulls.{none}
-use Rattle.ts_bound.specs.HullTables.{hull_at, hulls_at, row_of, cells_before, cells_after, values_at, rows_behind, forward_rows, backward_rows, forward_table}
+use Rattle.ts_bound.specs.HullTables.{hull_at, hulls_at, row_of, cells_before, cells_after, values_at, rows_behind, forward_rows, backward_rows, forward_table, backward_table}
 use Rattle.ts_bound.specs.TermSpans.{span_of_all}
 use Rattle.ts_bound.specs.Blocks.{standing_of, HullsStand, glued_by, finishes, glued_with, glued_all, OfReverse, AreBackRows, back_hulls, back_states}
 use Rattle.ts_bound.proofs.TableLaws.{hull_kept, kept_stands, length-forward, length-backward}
@@ -224,12 +224,16 @@ module _ (w : Option Range) (cells : List (List ℤ)) (looks : LooksInside (leng
       read_row (forward_rows b inner) (hulls_at b (cells_before (place_in w k) inner)) t row left (length-forward b [] inner)
       (ahead_inner b inner (place_in w k) bounds.0 bounds.1) there is_t is_row is_left
 
-  pub back_begun : (p : Option Pair) (t : List (List Hull)) (row : List Hull) (left : List ℤ) → is_looked w k ≡ true → AreBackRows p w cells t →
+  pub behind_begun : (b : Body) (t : List (List Hull)) (row : List Hull) (left : List ℤ) → is_looked w k ≡ true → t ≡ backward_table b w cells →
+      row ≡ get_or t (k - 1) [] → left ≡ get_or cells (k - 1) [] → row ≡ flat_map (hulls_at b (cells_after (place_in w k) inner)) left
+  behind_begun b t row left there is_t is_row is_left =
+      read_row (backward_rows b inner) (hulls_at b (cells_after (place_in w k) inner)) t row left (length-backward b inner)
+      (back_inner b inner (place_in w k) bounds.0 bounds.1) there is_t is_row is_left
+
+  back_begun : (p : Option Pair) (t : List (List Hull)) (row : List Hull) (left : List ℤ) → is_looked w k ≡ true → AreBackRows p w cells t →
       row ≡ get_or t (k - 1) [] → left ≡ get_or cells (k - 1) [] → row ≡ flat_map (back_hulls p (cells_after (place_in w k) inner)) left
   back_begun None t row left there is_t is_row is_left = absurd is_t
-  back_begun (Some p) t row left there is_t is_row is_left =
-      read_row (backward_rows p.reverse inner) (hulls_at p.reverse (cells_after (place_in w k) inner)) t row left (length-backward p.reverse inner)
-      (back_inner p.reverse inner (place_in w k) bounds.0 bounds.1) there is_t is_row is_left
+  back_begun (Some p) t row left there is_t is_row is_left = behind_begun p.reverse t row left there is_t is_row is_left
 
   -- the hulls of the value v at place i of the cell
   module _ (i : ℕ) (v : ℤ) (at : slice_get (get_or cells (k - 1) []) i ≡ Some v) (m : ℕ) (row : List Hull) (there : is_looked w k ≡ true) where

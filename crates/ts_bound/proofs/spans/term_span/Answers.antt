@@ -1,5 +1,5 @@
 use mir.Val.{SFits}
-use Rattle.std.proofs.Common.{◌≡◌, sym, ap, ◌∙◌, length, slice_get, rules, w64, arith}
+use Rattle.std.proofs.Common.{sym, ap, ◌∙◌, length, slice_get, rules, w64, arith}
 use Rattle.std.proofs.lemmas.Int.{to_z-of_z}
 use Rattle.ts_bound.specs.Looks.{read_at}
 use Rattle.ts_bound.specs.TermSpans.{automata_of}

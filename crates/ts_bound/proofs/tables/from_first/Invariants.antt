@@ -1,11 +1,7 @@
 use Rattle.std.proofs.Common.{◌≤◌}
-use Rattle.ts_base.specs.Windows.{looked_at}
-use Rattle.ts_bound.specs.Looks.{first_looked}
-use Rattle.ts_bound.proofs.TableLaws.{FilledTo}
-use Rattle.ts_bound.proofs.WindowedTables.{Over, at}
+use Rattle.ts_bound.specs.HullTables.{forward_table}
+use Rattle.ts_bound.proofs.Filled.{IsFilled}
 use Rattle.ts_bound.proofs.tables.from_first.Given as goal
 
 abbrev pub invariant-loop-k : goal.invariant-loop-k
-invariant-loop-k l =
-    Over l.a l.fn.window l.cells.present (FilledTo l.a (looked_at l.fn.window l.cells.present) (at l.fn.window l.k)) l.table
-    × (first_looked l.fn.window ≤ l.k)
+invariant-loop-k l = IsFilled (forward_table l.a l.fn.window l.cells.present) l.first l.k l.table × (l.first ≤ l.k)
