@@ -1,9 +1,10 @@
--- What the layers above know of spans; nothing here speaks of hulls.
-use Rattle.std.specs.Prelude.{◌≡◌, ◌≤◌, ℕ, ◌-◌, ℤ, IsTrue, IfSome, Contains, List, [], ◌∷◌, length, map, set}
+-- What the layers above know of spans, in which nothing speaks of hulls; and of rows that were lent.
+use Rattle.std.specs.Prelude.{◌≡◌, ◌≤◌, ℕ, ◌+◌, ◌-◌, ℤ, IsTrue, IfSome, Contains, List, [], ◌∷◌, ◌++◌, length, map, set}
 use Rattle.ts_base.specs.Limits.{most_cells}
 use Rattle.ts_base.specs.Windows.{looked_at}
 use Rattle.ts_base.specs.SpanLayer.{IsWithin}
 use Rattle.ts_base.specs.Spans.{one_span, Holds}
+use Rattle.ts_automaton.specs.declared.regs.Hull.{Hull}
 use Rattle.ts_automaton.specs.declared.state.Mark.TheVariants.{Same}
 use Rattle.ts_automaton.specs.Body.{Body}
 use Rattle.ts_automaton.specs.Typing.{is_automaton}
@@ -13,6 +14,7 @@ use Rattle.ts_glue.specs.Pairs.{Pair}
 use Rattle.ts_glue.specs.Glued.{Local}
 use Rattle.ts_glue.specs.Rules.{keeps_rules}
 use Rattle.ts_bound.specs.HullTables.{values_at}
+use Rattle.ts_bound.specs.Rows.{IsRow, row_at, with_written}
 use Rattle.ts_bound.specs.TermSpans.{Automata, LooksIn, IsUsable, term_span, value_span}
 
 -- a pair that splits the automaton at each cell
@@ -70,3 +72,15 @@ SpansStaySingle =
     (xs : List ℤ) → 1 ≤ length xs → length xs ≤ most_cells → AreCellValues xs →
     let cells = map (λ x. x ∷ []) xs in
     LooksIn m cells → term_span m (length xs) cells ≡ one_span (answer m.forward (looked_at m.window xs))
+
+-- a lent row that is written with as many hulls stands in its place, and every other row stays; so do two rows
+abbrev pub WrittenRowsAreSet : Type 0
+WrittenRowsAreSet =
+    (rows : List (List Hull)) (k : ℕ) (row : List Hull) → IsRow k rows → length row ≡ length (row_at k rows) →
+    with_written rows (k - 1) row ≡ set rows (k - 1) row
+
+abbrev pub TwoWrittenRowsAreSet : Type 0
+TwoWrittenRowsAreSet =
+    (rows : List (List Hull)) (k : ℕ) (first second : List Hull) → 1 ≤ k → k + 1 ≤ length rows →
+    length first ≡ length (row_at k rows) → length second ≡ length (row_at (k + 1) rows) →
+    with_written rows (k - 1) (first ++ second) ≡ set (set rows (k - 1) first) k second

@@ -6,11 +6,11 @@ use Rattle.ts_automaton.specs.contracts.regs.Hull as hull
 use Rattle.ts_bound.specs.contracts.table.HullTable.{the_row}
 use Rattle.ts_bound.specs.Rows.{with_written}
 
--- the table ends with the row of cell k as it was left
+-- the table ends with the row of cell k as it was left, and every other row as it was (`WrittenRowsAreSet`)
 abbrev pub LendsRow : MutBor (List (List Hull)) → ℕ → MutBor (List Hull) → Fml
 LendsRow t k r = Lends the_row (Array hull.the_row 0) t r (with_written t.now (k - 1))
 
--- the table ends with the rows of cells k and k + 1 as they were left
+-- with the rows of cells k and k + 1 as they were left (`TwoWrittenRowsAreSet`)
 abbrev pub LendsTwo : MutBor (List (List Hull)) → ℕ → MutBor (List Hull) × MutBor (List Hull) → Fml
 LendsTwo t k r =
     LendsBoth the_row (Array hull.the_row 0) (Array hull.the_row 0) t r (λ a b. with_written t.now (k - 1) (a ++ b))

@@ -1,6 +1,6 @@
-//! Laws of spans, for the layers above. Each is a statement of `specs/Laws` that the checker has proved.
+//! Laws of spans and of lent rows, for the layers above. Each is a statement of `specs/Laws` that the checker has proved.
 
-ghost use Rattle.ts_bound.specs.Laws.{AreAutomata, SmallerBoxesAreWithin, SpansHold, SpansStaySingle, ValueSpansAreNarrowed, ValueSpansAreWithin};
+ghost use Rattle.ts_bound.specs.Laws.{AreAutomata, SmallerBoxesAreWithin, SpansHold, SpansStaySingle, TwoWrittenRowsAreSet, ValueSpansAreNarrowed, ValueSpansAreWithin, WrittenRowsAreSet};
 ghost use Rattle.ts_bound.specs.TermSpans.{automata_of};
 
 use ts_glue::Machine;
@@ -28,6 +28,12 @@ pub fn value_spans_are_narrowed()
 /// The span of the box with one value alone at a cell lies in that of the whole box.
 pub fn value_spans_are_within()
     ensures { ValueSpansAreWithin }
+{}
+
+/// A table in which a lent row was written has that row in its place, and every other one as it was.
+pub fn written_rows_are_set()
+    ensures one { WrittenRowsAreSet }
+    ensures two { TwoWrittenRowsAreSet }
 {}
 
 /// The rules that the type of a machine keeps, in the form that the laws require.
