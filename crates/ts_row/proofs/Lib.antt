@@ -4,6 +4,7 @@ pub mod Twins
 pub mod Steps
 pub mod Reached
 pub mod ShapeLaws
+pub mod NextShapes
 pub mod PlanLaws
 pub mod Flat
 pub mod StartLaws

@@ -10,7 +10,7 @@ use Rattle.ts_automaton.specs.Formula.{Formula, Leaf, Join}
 use Rattle.ts_automaton.specs.Registers.{each}
 use Rattle.ts_automaton.specs.Body.{Body}
 use Rattle.ts_hull.specs.Sealed.{move_at}
-use Rattle.ts_hull.specs.Splits.{FrontOf}
+use Rattle.ts_hull.specs.Splits.{FrontOf, TailOf}
 use Rattle.ts_hull.specs.Cuts.{Cut, cut_of}
 use Rattle.ts_sweep.specs.Moves.{of_width}
 use Rattle.ts_row.specs.declared.words.Words.{Words}
@@ -20,7 +20,7 @@ use Rattle.ts_row.specs.declared.plan.CellFold.TheVariants.{Ones, Width, Surf, G
 use Rattle.ts_row.specs.declared.plan.RangeFold.{RangeFold}
 use Rattle.ts_row.specs.declared.plan.RangeFold.TheVariants.{Sum, Highest, Lowest}
 use Rattle.ts_row.specs.declared.plan.Shape.{Shape}
-use Rattle.ts_row.specs.declared.plan.Shape.TheVariants.{Kept, Longer, Begun, Found, Inside, Ended, Anew, FoundTwice, EndedTwice, Other}
+use Rattle.ts_row.specs.declared.plan.Shape.TheVariants.{Kept, Longer, Begun, Found, Inside, Ended, Anew, FoundTwice, EndedTwice, LongerNext, FoundNext, InsideNext, Other}
 use Rattle.ts_row.specs.declared.plan.Equals.TheVariants.{Alone, WithLess, WithGreater}
 use Rattle.ts_row.specs.declared.plan.StatePlan.{StatePlan}
 use Rattle.ts_row.specs.declared.plan.Plan.{Plan}
@@ -115,6 +115,21 @@ found_twice_fronts o w d = narrow_fronts (twice_by o w) d (Leaf R)
 abbrev pub ended_twice_fronts : Operator → Operator → Formula → Formula → Cut
 ended_twice_fronts g o w d = narrow_fronts (Leaf C) d (Join g (Leaf R) (twice_by o w))
 
+-- the next cell is the last operand: D goes on with it; C becomes of D, a word and it, and D begins anew; C becomes of
+-- C, D and it, and D begins anew
+abbrev pub longer_tails : Op → Cut
+longer_tails o = each (FrontOf (Leaf C)) (FrontOf (Leaf E)) (TailOf o (Leaf D)) (TailOf Min (Leaf F)) (FrontOf (Leaf R))
+
+abbrev pub found_tails : Operator → Op → Formula → Formula → Cut
+found_tails p o w d =
+    each (TailOf o (Join p (Leaf D) w)) (TailOf Min (least (Leaf F))) (FrontOf d) (FrontOf (Leaf HighAtom))
+    (FrontOf (Leaf R))
+
+abbrev pub inside_tails : Operator → Op → Formula → Cut
+inside_tails p o d =
+    each (TailOf o (Join p (Leaf C) (Leaf D))) (TailOf Min (Join (Fold Min) (Leaf E) (Leaf F))) (FrontOf d)
+    (FrontOf (Leaf HighAtom)) (FrontOf (Leaf R))
+
 -- what is held: in a wide automaton C less E
 abbrev pub held_of : Bool → Formula
 held_of wide = if wide then Join Sub (Leaf C) (Leaf E) else Leaf C
@@ -139,6 +154,10 @@ IsShapeOf wide (FoundTwice f) k =
     k ≡ of_width wide (found_twice_fronts (Fold (cell_op f)) (cell_word f) (cell_start f))
 IsShapeOf wide (EndedTwice g f) k =
     k ≡ of_width wide (ended_twice_fronts (Fold (range_op g)) (Fold (cell_op f)) (cell_word f) (cell_start f))
+IsShapeOf wide (LongerNext f) k = k ≡ of_width wide (longer_tails (cell_op f))
+IsShapeOf wide (FoundNext f) k =
+    k ≡ of_width wide (found_tails (Fold (cell_op f)) (cell_op f) (cell_word f) (cell_start f))
+IsShapeOf wide (InsideNext f) k = k ≡ of_width wide (inside_tails (Fold (cell_op f)) (cell_op f) (cell_start f))
 IsShapeOf wide Other k = Unit {0}
 
 -- what it says of E, F and R of a wide automaton
@@ -152,6 +171,9 @@ beside_held (Ended g f) = Leaf E
 beside_held (Anew g f) = Leaf Zero
 beside_held (FoundTwice f) = Leaf Zero
 beside_held (EndedTwice g f) = Leaf Zero
+beside_held (LongerNext f) = Leaf Zero
+beside_held (FoundNext f) = Leaf Zero
+beside_held (InsideNext f) = Leaf Zero
 beside_held Other = Leaf Zero
 
 abbrev pub beside_open : Shape → Formula
@@ -164,6 +186,9 @@ beside_open (Ended g f) = Leaf HighAtom
 beside_open (Anew g f) = Leaf HighAtom
 beside_open (FoundTwice f) = Leaf Zero
 beside_open (EndedTwice g f) = Leaf Zero
+beside_open (LongerNext f) = Leaf Zero
+beside_open (FoundNext f) = Leaf Zero
+beside_open (InsideNext f) = Leaf Zero
 beside_open Other = Leaf Zero
 
 -- what R takes in, in a wide automaton: what was found, or what is held
@@ -177,6 +202,9 @@ taken_in (Ended g f) = found_of true (Fold (cell_op f)) (cell_word f)
 taken_in (Anew g f) = held_of true
 taken_in (FoundTwice f) = held_of true
 taken_in (EndedTwice g f) = twice f
+taken_in (LongerNext f) = held_of true
+taken_in (FoundNext f) = held_of true
+taken_in (InsideNext f) = held_of true
 taken_in Other = held_of true
 
 abbrev pub wide_result : Shape → Formula
@@ -189,6 +217,9 @@ wide_result (Ended g f) = Join (Fold (range_op g)) (Leaf R) (taken_in (Ended g f
 wide_result (Anew g f) = Join (Fold (range_op g)) (Leaf R) (taken_in (Anew g f))
 wide_result (FoundTwice f) = Leaf R
 wide_result (EndedTwice g f) = Join (Fold (range_op g)) (Leaf R) (taken_in (EndedTwice g f))
+wide_result (LongerNext f) = Leaf R
+wide_result (FoundNext f) = Leaf R
+wide_result (InsideNext f) = Leaf R
 wide_result Other = Leaf R
 
 -- what is planned of a state: the shape of each move, and that the move on `=` is the same as another only if it is

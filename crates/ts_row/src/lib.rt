@@ -17,6 +17,7 @@
 mod between;
 mod cell;
 mod clamped;
+mod next_shapes;
 mod packed_row;
 mod plan;
 mod row_steps;

@@ -7,11 +7,13 @@ ghost use Rattle.std.specs.Prelude.{◌≡◌, ◌<◌, IfSome, false, length, t
 ghost use Rattle.ts_automaton.specs.Body.{move_of, move_on, node_of};
 ghost use Rattle.ts_automaton.specs.Formula.{Join, Leaf, formula, is_zero};
 ghost use Rattle.ts_automaton.specs.Registers.{rests};
-ghost use Rattle.ts_automaton.specs.declared.expr.Atom.TheVariants.{C, D, R};
+ghost use Rattle.ts_automaton.specs.declared.expr.Atom.TheVariants.{C, D, Next, R};
 ghost use Rattle.ts_automaton.specs.declared.expr.Operator.TheVariants.{Fold};
 ghost use Rattle.ts_hull.specs.Cuts.{cut_of, is_front_move};
 ghost use Rattle.ts_hull.specs.Sealed.{move_at};
+ghost use Rattle.ts_hull.specs.Splits.{TailOf, split_formula};
 ghost use Rattle.ts_row.specs.declared.plan.Equals.TheVariants.{WithGreater, WithLess};
+ghost use Rattle.ts_row.specs.declared.plan.Shape.TheVariants.{FoundNext, InsideNext, LongerNext};
 ghost use Rattle.ts_sweep.specs.Fronts.{IsNarrowMove};
 ghost use Rattle.ts_row.specs.Plans.{
   IsPlanOf,
@@ -60,7 +62,8 @@ pub(crate) enum RangeFold {
 /// What a move makes of the registers: `Kept` changes nothing; in `Longer` D takes in the cell; in `Begun` D is reset;
 /// in `Found` C is made of D and the cell, in `Inside` of C, D and the cell, and D is reset; in `Ended` R takes in D
 /// and the cell, and D is reset; in `Anew` R takes in C, and C and D are reset; `FoundTwice` and `EndedTwice` are
-/// `Found` and `Ended` with the worth of two cells; `Other` is anything else.
+/// `Found` and `Ended` with the worth of two cells; `LongerNext` and `InsideNext` are `Longer` and `Inside` with the
+/// next cell in place of the cell, and `FoundNext` is `Found` with both; `Other` is anything else.
 #[derive(Clone, Copy)]
 pub(crate) enum Shape {
     Kept,
@@ -72,6 +75,9 @@ pub(crate) enum Shape {
     Anew(RangeFold, CellFold),
     FoundTwice(CellFold),
     EndedTwice(RangeFold, CellFold),
+    LongerNext(CellFold),
+    FoundNext(CellFold),
+    InsideNext(CellFold),
     Other,
 }
 
@@ -369,9 +375,12 @@ fn beside(s: Shape) -> (Words, Words)
         ),
         Shape::Ended(_, _) => (Words::Word(Atom::E), Words::Word(Atom::PosInf)),
         Shape::Anew(_, _) => (Words::Word(Atom::Zero), Words::Word(Atom::PosInf)),
-        Shape::FoundTwice(_) | Shape::EndedTwice(_, _) | Shape::Other => {
-            (Words::Word(Atom::Zero), Words::Word(Atom::Zero))
-        }
+        Shape::FoundTwice(_)
+        | Shape::EndedTwice(_, _)
+        | Shape::LongerNext(_)
+        | Shape::FoundNext(_)
+        | Shape::InsideNext(_)
+        | Shape::Other => { (Words::Word(Atom::Zero), Words::Word(Atom::Zero)) }
     }
 }
 
@@ -567,16 +576,116 @@ fn known_shape(t: &Turn, wide: bool) -> Option<Shape>
     if wide { wide_shape(t) } else { narrow_shape(t) }
 }
 
+/// The fold of cells whose operator joins something with the next cell.
+fn next_fold(e: &Expr) -> Option<CellFold> {
+    match e {
+        Expr::Add(_, _) => Some(CellFold::Surf),
+        Expr::Max(_, _) => Some(CellFold::Greatest),
+        Expr::Min(_, _) => Some(CellFold::Least),
+        _ => None,
+    }
+}
+
+/// Whether an expression is an operator over two words and the next cell, the two words first.
+fn is_two_next(e: &Expr, o: Op, first: Atom, second: Atom) -> bool
+    ensures { result ≡ true → formula e.now
+        ≡ Join (Fold o) (Join (Fold o) (Leaf first) (Leaf second)) (Leaf Next) }
+{
+    match (o, e) {
+        (Op::Add, Expr::Add(a, b)) => is_two(a, o, first, second) && is_word(b, Atom::Next),
+        (Op::Max, Expr::Max(a, b)) => is_two(a, o, first, second) && is_word(b, Atom::Next),
+        (Op::Min, Expr::Min(a, b)) => is_two(a, o, first, second) && is_word(b, Atom::Next),
+        _ => false,
+    }
+}
+
+/// Whether a move has the shape `LongerNext`.
+fn is_longer_next(t: &Turn, f: CellFold, wide: bool) -> bool
+    requires rests { rests is_zero wide (move_of t.now).to ≡ true }
+    ensures { result ≡ true → IsShapeOf wide (LongerNext f) (cut_of (move_of t.now)) }
+{
+    is_word(&t.c, Atom::C)
+        && is_two(&t.d, op_of(f), Atom::D, Atom::Next)
+        && is_word(&t.r, Atom::R)
+        && (!wide || is_word(&t.e, Atom::E) && is_two(&t.f, Op::Min, Atom::F, Atom::Next))
+}
+
+/// Whether an expression joins D with what the cell is worth in a fold, and then with the next cell.
+fn is_found_cell(e: &Expr, f: CellFold) -> bool
+    ensures { result ≡ true → split_formula (formula e.now)
+        ≡ TailOf (cell_op f) (Join (Fold (cell_op f)) (Leaf D) (cell_word f)) }
+{
+    is_two_next(e, op_of(f), Atom::D, worth_of(f))
+}
+
+/// Whether a move has the shape `FoundNext`.
+fn is_found_next(t: &Turn, f: CellFold, wide: bool) -> bool
+    requires rests { rests is_zero wide (move_of t.now).to ≡ true }
+    ensures { result ≡ true → IsShapeOf wide (FoundNext f) (cut_of (move_of t.now)) }
+{
+    is_found_cell(&t.c, f)
+        && is_word(&t.d, start_of(f))
+        && is_word(&t.r, Atom::R)
+        && (!wide || is_two_next(&t.e, Op::Min, Atom::F, Atom::This) && is_word(&t.f, Atom::PosInf))
+}
+
+/// Whether a move has the shape `InsideNext`.
+fn is_inside_next(t: &Turn, f: CellFold, wide: bool) -> bool
+    requires rests { rests is_zero wide (move_of t.now).to ≡ true }
+    ensures { result ≡ true → IsShapeOf wide (InsideNext f) (cut_of (move_of t.now)) }
+{
+    is_three(&t.c, op_of(f), Atom::C, op_of(f), Atom::D, Atom::Next)
+        && is_word(&t.d, start_of(f))
+        && is_word(&t.r, Atom::R)
+        && (!wide
+            || is_three(&t.e, Op::Min, Atom::E, Op::Min, Atom::F, Atom::Next)
+                && is_word(&t.f, Atom::PosInf))
+}
+
+/// The shape of a move that makes C of something and the next cell, if it is known.
+fn held_next(t: &Turn, wide: bool) -> Option<Shape>
+    requires rests { rests is_zero wide (move_of t.now).to ≡ true }
+    ensures { IfSome result (λ s. IsShapeOf wide s (cut_of (move_of t.now))) }
+{
+    let f = next_fold(&t.c)?;
+    if is_found_next(t, f, wide) {
+        Some(Shape::FoundNext(f))
+    } else if is_inside_next(t, f, wide) {
+        Some(Shape::InsideNext(f))
+    } else {
+        None
+    }
+}
+
+/// The shape of a move that reads the next cell, if it is known.
+fn next_shape(t: &Turn, wide: bool) -> Option<Shape>
+    requires rests { rests is_zero wide (move_of t.now).to ≡ true }
+    ensures { IfSome result (λ s. IsShapeOf wide s (cut_of (move_of t.now))) }
+{
+    match next_fold(&t.d) {
+        Some(f) => {
+            if is_longer_next(t, f, wide) {
+                Some(Shape::LongerNext(f))
+            } else {
+                None
+            }
+        }
+        None => held_next(t, wide),
+    }
+}
+
 impl Shape {
     /// The shape of a move of an automaton of a width.
     fn of(t: &Turn, wide: bool) -> Shape
         requires { rests is_zero wide (move_of t.now).to ≡ true }
         ensures { IsShapeOf wide result (cut_of (move_of t.now)) }
     {
-        if !is_front_move(t) {
-            return Shape::Other;
-        }
-        match known_shape(t, wide) {
+        let known = if is_front_move(t) {
+            known_shape(t, wide)
+        } else {
+            next_shape(t, wide)
+        };
+        match known {
             Some(shape) => shape,
             None => Shape::Other,
         }

@@ -29,6 +29,7 @@ ghost use Rattle.ts_sweep.specs.Sides.{has_wide};
 use crate::between::{Between, On};
 use crate::cell::Cell;
 use crate::clamped::{ClampedMinus, ClampedPlus};
+use crate::next_shapes::{found_next, inside_next, longer_next};
 use crate::plan::{CellFold, RangeFold, Shape};
 use ts_sweep::front::{Front, High, Join, Low, One, Register, This, Zero};
 use ts_sweep::moves::{Keep, Moves, Parts};
@@ -761,6 +762,9 @@ pub(crate) fn take_shape<const N: usize>(
         Shape::Anew(g, f) => anew(g, f, on, t, next),
         Shape::FoundTwice(f) => found_twice(f, on, t, next),
         Shape::EndedTwice(g, f) => ended_twice(g, f, on, t, next),
+        Shape::LongerNext(f) => longer_next(f, on, t, next),
+        Shape::FoundNext(f) => found_next(f, on, t, next),
+        Shape::InsideNext(f) => inside_next(f, on, t, next),
         Shape::Other => false,
     }
 }

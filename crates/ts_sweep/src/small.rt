@@ -16,7 +16,7 @@ const SMALL: i64 = 10_000_000_000_000_000;
 fn is_small_lane(x: i64) -> bool
     ensures { result ≡ small (upper x) }
 {
-    x <= -i64::MAX || i64::MAX <= x || -SMALL <= x && x <= SMALL
+    (x <= -i64::MAX) | (i64::MAX <= x) | (-SMALL <= x) & (x <= SMALL)
 }
 
 /// Whether neither end of a register is a number above 10^16 in size.
@@ -24,7 +24,7 @@ fn is_small_lane(x: i64) -> bool
 fn are_small_ends(e: Ends) -> bool
     ensures { result ≡ small_span (ends_span e) }
 {
-    is_small_lane(e.below) && is_small_lane(e.above)
+    is_small_lane(e.below) & is_small_lane(e.above)
 }
 
 /// Whether no register of a hull has a number above 10^16 in size.

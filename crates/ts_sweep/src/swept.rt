@@ -15,8 +15,7 @@ use crate::any_part::AnyPart;
 use crate::cover::Cover;
 use crate::moves::{Parts, has_tail};
 use crate::packed::Packed;
-use crate::small::are_small;
-use crate::take::{take_column, take_small};
+use crate::take::{take_column, take_next};
 use crate::values::Values;
 use ts_automaton::Turn;
 use ts_base::Letter;
@@ -74,10 +73,7 @@ fn take_parts<H: Packed, V: Values, W: Values>(
             next,
         );
     }
-    if !are_small::<H>(before) {
-        return false;
-    }
-    take_small::<H, _, V, W>(
+    take_next::<H, _, V, W>(
         parts,
         letter,
         twin,

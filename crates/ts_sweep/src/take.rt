@@ -17,6 +17,7 @@ use crate::hull::Hull;
 use crate::moves::Moves;
 use crate::packed::Packed;
 use crate::runs::sweep_runs;
+use crate::small::are_small;
 use crate::source::Fronts;
 use crate::sweep::sweep;
 use crate::values::Values;
@@ -240,4 +241,36 @@ pub fn take_small<H: Packed, F: Moves<H>, V: Values, W: Values>(
     ensures kept { result ≡ false → next.new ≡ next.old }
 {
     take_fit::<H, F, V, W>(by, letter, twin, cover, values, before, next_values, next)
+}
+
+/// Takes in a move that may read the next cell, if no number of its hulls is large and its sums stay small.
+#[inline(always)]
+pub fn take_next<H: Packed, F: Moves<H>, V: Values, W: Values>(
+    by: F,
+    letter: Letter,
+    twin: bool,
+    cover: &Cover,
+    values: V,
+    before: &[H],
+    next_values: W,
+    next: &mut [H],
+) -> bool
+    requires registers { 6 ≤ H.count }
+    requires swept { all_swept (F.cut by) ≡ true }
+    requires ok { V.ok values }
+    requires next_ok { W.ok next_values }
+    requires packed { ArePacked H.lanes H.none H.count (V.len values) before.now }
+    requires covers { IsCoverOf H.sides H.lanes H.none cover.now (V.len values) before.now }
+    requires next_packed { ArePacked H.lanes H.none H.count (W.len next_values) next.old }
+    requires alone { letter ≡ Equal → twin ≡ false }
+    ensures packed { ArePacked H.lanes H.none H.count (W.len next_values) next.new }
+    ensures taken { result ≡ true → (m : Move) → cut_of m ≡ F.cut by →
+        IsMoved H.sides H.lanes H.none m letter twin (V.len values)
+        (V.value values) before.now (W.len next_values) (W.value next_values) next.old next.new }
+    ensures kept { result ≡ false → next.new ≡ next.old }
+{
+    if !are_small::<H>(before) {
+        return false;
+    }
+    take_small::<H, F, V, W>(by, letter, twin, cover, values, before, next_values, next)
 }
