@@ -2,6 +2,7 @@ pub mod WidthLaws
 pub mod Places
 pub mod Twins
 pub mod Steps
+pub mod Equals
 pub mod Reached
 pub mod ShapeLaws
 pub mod NextShapes

@@ -25,6 +25,7 @@ use ts_automaton::{Automaton, Turn};
 use ts_base::{Letter, Memory};
 use ts_sweep::column::Dense;
 use ts_sweep::cover::cover_of;
+use ts_sweep::here::take_equal;
 use ts_sweep::packed::PackedHull;
 use ts_sweep::pairs::take_pairs;
 use ts_sweep::swept::take_swept;
@@ -64,6 +65,38 @@ fn planned_move<'a, const N: usize>(
     }
 }
 
+/// Takes a move into a column by a sweep that evaluates its expressions, if it can be swept. On `=` it can be, whatever
+/// it reads, since the next cell is the cell.
+fn take_tree<const N: usize>(m: Planned<'_>, t: &Between<'_, N>, next: &mut [PackedHull<N>]) -> bool
+    requires covered { IsCovered N t.now }
+    requires width { rests is_zero (has_wide N) (move_of m.turn.now).to ≡ true }
+    requires next_packed { IsColumn N (count_in t.now.next_values) next.old }
+    ensures packed { IsColumn N (count_in t.now.next_values) next.new }
+    ensures moved { result ≡ true → HasMoved N t.now m.entry.on (move_of m.entry.turn.now) next.old next.new }
+    ensures kept { result ≡ false → next.new ≡ next.old }
+{
+    match m.on.letter {
+        Letter::Equal => take_equal::<PackedHull<N>, Cell<'_>, Cell<'_>>(
+            m.turn,
+            t.cover,
+            t.values,
+            t.before,
+            t.next_values,
+            next,
+        ),
+        _ => take_swept::<PackedHull<N>, Cell<'_>, Cell<'_>>(
+            m.turn,
+            m.on.letter,
+            m.on.twin,
+            t.cover,
+            t.values,
+            t.before,
+            t.next_values,
+            next,
+        ),
+    }
+}
+
 /// Takes a move into a column: by the sweep of its shape, or else by that of its expressions, or else by pairs.
 fn take_turn<const N: usize>(m: Planned<'_>, t: &Between<'_, N>, next: &mut [PackedHull<N>])
     requires covered { IsCovered N t.now }
@@ -77,16 +110,7 @@ fn take_turn<const N: usize>(m: Planned<'_>, t: &Between<'_, N>, next: &mut [Pac
     if take_shape(m.shape, m.on, t, next) {
         return;
     }
-    if take_swept::<PackedHull<N>, Cell<'_>, Cell<'_>>(
-        m.turn,
-        m.on.letter,
-        m.on.twin,
-        t.cover,
-        t.values,
-        t.before,
-        t.next_values,
-        next,
-    ) {
+    if take_tree(m, t, next) {
         return;
     }
     take_pairs::<PackedHull<N>, Cell<'_>, Cell<'_>>(

@@ -18,6 +18,8 @@ pub mod MoveLaws
 pub mod Covers
 pub mod Trees
 pub mod TreeLaws
+pub mod Here
+pub mod HereLaws
 pub mod Strided
 pub mod StridedLaws
 pub mod Columns

@@ -30,6 +30,7 @@ pub mod column;
 pub mod cover;
 pub mod equal;
 pub mod front;
+pub mod here;
 pub mod hull;
 pub mod moves;
 pub mod operator;

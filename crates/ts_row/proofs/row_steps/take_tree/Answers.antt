@@ -1,0 +1,7 @@
+use Rattle.ts_automaton.specs.Body.{move_of}
+use Rattle.ts_row.proofs.Equals.{moved_equal}
+use Rattle.ts_row.proofs.row_steps.take_tree.Goals as goal
+
+pub returns-in-Equal-clause-moved : goal.returns-in-Equal-clause-moved
+returns-in-Equal-clause-moved g c =
+    λ is. moved_equal _ c.args.t.now c.args.m.on (move_of c.args.m.turn.now) _ _ c.in-Equal.is (c.take_equal.ensures.taken is)
