@@ -1,17 +1,20 @@
 -- How the moves of an automaton are taken in, found once for an automaton.
-use Rattle.std.specs.Prelude.{◌≡◌, ℕ, ◌<◌, Bool, true, if◌then◌else◌, length, get_or}
+use Rattle.std.specs.Prelude.{◌≡◌, ℕ, ◌<◌, Bool, true, false, if◌then◌else◌, length, get_or}
+use Rattle.ts_base.specs.declared.letter.Letter.{Letter}
 use Rattle.ts_base.specs.declared.letter.Letter.TheVariants.{Less, Equal, Greater}
 use Rattle.ts_base.specs.declared.op.Op.{Op}
 use Rattle.ts_base.specs.declared.op.Op.TheVariants.{Add, Max, Min}
 use Rattle.ts_automaton.specs.declared.expr.Atom.TheVariants.{C, E, D, F, R, This, Zero, Unit as UnitAtom, NegInf as LowAtom, PosInf as HighAtom}
+use Rattle.ts_automaton.specs.declared.expr.Expr.{Expr}
 use Rattle.ts_automaton.specs.declared.expr.Operator.{Operator}
 use Rattle.ts_automaton.specs.declared.expr.Operator.TheVariants.{Fold, Sub}
-use Rattle.ts_automaton.specs.Formula.{Formula, Leaf, Join}
+use Rattle.ts_automaton.specs.Formula.{Formula, Leaf, Join, formula}
 use Rattle.ts_automaton.specs.Registers.{each}
 use Rattle.ts_automaton.specs.Body.{Body}
 use Rattle.ts_hull.specs.Sealed.{move_at}
 use Rattle.ts_hull.specs.Splits.{FrontOf, TailOf}
 use Rattle.ts_hull.specs.Cuts.{Cut, cut_of}
+use Rattle.ts_sweep.specs.Here.{here_formula, here_move}
 use Rattle.ts_sweep.specs.Moves.{of_width}
 use Rattle.ts_row.specs.declared.words.Words.{Words}
 use Rattle.ts_row.specs.declared.words.Words.TheVariants.{Word, Two, Three}
@@ -24,6 +27,10 @@ use Rattle.ts_row.specs.declared.plan.Shape.TheVariants.{Kept, Longer, Begun, Fo
 use Rattle.ts_row.specs.declared.plan.Equals.TheVariants.{Alone, WithLess, WithGreater}
 use Rattle.ts_row.specs.declared.plan.StatePlan.{StatePlan}
 use Rattle.ts_row.specs.declared.plan.Plan.{Plan}
+
+-- an expression of a move, as it is read between equal values or others
+abbrev pub read : Bool → Expr → Formula
+read equal e = here_formula equal (formula e)
 
 -- an expression of few words
 abbrev pub words_formula : Words → Formula
@@ -107,13 +114,9 @@ ended_fronts o found d = fronts (Leaf C) (Leaf E) d (Leaf HighAtom) (Join o (Lea
 abbrev pub anew_fronts : Operator → Formula → Formula → Formula → Cut
 anew_fronts o c held d = fronts c (Leaf Zero) d (Leaf HighAtom) (Join o (Leaf R) held)
 
--- C becomes of D and the worth of two cells, and D begins anew; R becomes of R and what D and that give, and D begins
--- anew
+-- C becomes of D and the worth of two cells, and D begins anew
 abbrev pub found_twice_fronts : Operator → Formula → Formula → Cut
-found_twice_fronts o w d = narrow_fronts (twice_by o w) d (Leaf R)
-
-abbrev pub ended_twice_fronts : Operator → Operator → Formula → Formula → Cut
-ended_twice_fronts g o w d = narrow_fronts (Leaf C) d (Join g (Leaf R) (twice_by o w))
+found_twice_fronts o w d = fronts (twice_by o w) (least (least (Leaf F))) d (Leaf HighAtom) (Leaf R)
 
 -- the next cell is the last operand: D goes on with it; C becomes of D, a word and it, and D begins anew; C becomes of
 -- C, D and it, and D begins anew
@@ -134,9 +137,16 @@ inside_tails p o d =
 abbrev pub held_of : Bool → Formula
 held_of wide = if wide then Join Sub (Leaf C) (Leaf E) else Leaf C
 
--- what is found of D and a word: in a wide automaton less the least
+-- in a wide automaton an expression less another
+abbrev pub less_of : Bool → Formula → Formula → Formula
+less_of wide e f = if wide then Join Sub e f else e
+
+-- what is found of D and a word, or of D and the worth of two cells: in a wide automaton less the least
 abbrev pub found_of : Bool → Operator → Formula → Formula
-found_of wide o w = if wide then Join Sub (Join o (Leaf D) w) (least (Leaf F)) else Join o (Leaf D) w
+found_of wide o w = less_of wide (Join o (Leaf D) w) (least (Leaf F))
+
+abbrev pub found_twice_of : Bool → Operator → Formula → Formula
+found_twice_of wide o w = less_of wide (twice_by o w) (least (least (Leaf F)))
 
 -- what a shape says of the split expressions of a move
 abbrev pub IsShapeOf : Bool → Shape → Cut → Type 0
@@ -153,7 +163,8 @@ IsShapeOf wide (Anew g f) k =
 IsShapeOf wide (FoundTwice f) k =
     k ≡ of_width wide (found_twice_fronts (Fold (cell_op f)) (cell_word f) (cell_start f))
 IsShapeOf wide (EndedTwice g f) k =
-    k ≡ of_width wide (ended_twice_fronts (Fold (range_op g)) (Fold (cell_op f)) (cell_word f) (cell_start f))
+    k ≡ of_width wide
+    (ended_fronts (Fold (range_op g)) (found_twice_of wide (Fold (cell_op f)) (cell_word f)) (cell_start f))
 IsShapeOf wide (LongerNext f) k = k ≡ of_width wide (longer_tails (cell_op f))
 IsShapeOf wide (FoundNext f) k =
     k ≡ of_width wide (found_tails (Fold (cell_op f)) (cell_op f) (cell_word f) (cell_start f))
@@ -169,8 +180,8 @@ beside_held (Found f) = least (Leaf F)
 beside_held (Inside f) = Join (Fold Min) (Leaf E) (least (Leaf F))
 beside_held (Ended g f) = Leaf E
 beside_held (Anew g f) = Leaf Zero
-beside_held (FoundTwice f) = Leaf Zero
-beside_held (EndedTwice g f) = Leaf Zero
+beside_held (FoundTwice f) = least (least (Leaf F))
+beside_held (EndedTwice g f) = Leaf E
 beside_held (LongerNext f) = Leaf Zero
 beside_held (FoundNext f) = Leaf Zero
 beside_held (InsideNext f) = Leaf Zero
@@ -184,8 +195,8 @@ beside_open (Found f) = Leaf HighAtom
 beside_open (Inside f) = Leaf HighAtom
 beside_open (Ended g f) = Leaf HighAtom
 beside_open (Anew g f) = Leaf HighAtom
-beside_open (FoundTwice f) = Leaf Zero
-beside_open (EndedTwice g f) = Leaf Zero
+beside_open (FoundTwice f) = Leaf HighAtom
+beside_open (EndedTwice g f) = Leaf HighAtom
 beside_open (LongerNext f) = Leaf Zero
 beside_open (FoundNext f) = Leaf Zero
 beside_open (InsideNext f) = Leaf Zero
@@ -201,7 +212,7 @@ taken_in (Inside f) = held_of true
 taken_in (Ended g f) = found_of true (Fold (cell_op f)) (cell_word f)
 taken_in (Anew g f) = held_of true
 taken_in (FoundTwice f) = held_of true
-taken_in (EndedTwice g f) = twice f
+taken_in (EndedTwice g f) = found_twice_of true (Fold (cell_op f)) (cell_word f)
 taken_in (LongerNext f) = held_of true
 taken_in (FoundNext f) = held_of true
 taken_in (InsideNext f) = held_of true
@@ -222,11 +233,20 @@ wide_result (FoundNext f) = Leaf R
 wide_result (InsideNext f) = Leaf R
 wide_result Other = Leaf R
 
+-- the split expressions of the move of a state on a letter: on `=` the next cell is read as the cell
+abbrev pub is_equal : Letter → Bool
+is_equal Less = false
+is_equal Equal = true
+is_equal Greater = false
+
+abbrev pub cut_at : Body → ℕ → Letter → Cut
+cut_at b q l = cut_of (here_move (is_equal l) (move_at b q l))
+
 -- what is planned of a state: the shape of each move, and that the move on `=` is the same as another only if it is
 pub record IsStatePlan (b : Body) (q : ℕ) (p : StatePlan) : Type 0 where
-  pub less : IsShapeOf b.wide p.less (cut_of (move_at b q Less))
-  pub equal : IsShapeOf b.wide p.equal (cut_of (move_at b q Equal))
-  pub greater : IsShapeOf b.wide p.greater (cut_of (move_at b q Greater))
+  pub less : IsShapeOf b.wide p.less (cut_at b q Less)
+  pub equal : IsShapeOf b.wide p.equal (cut_at b q Equal)
+  pub greater : IsShapeOf b.wide p.greater (cut_at b q Greater)
   pub with_less : p.equals ≡ WithLess → move_at b q Equal ≡ move_at b q Less
   pub with_greater : p.equals ≡ WithGreater → move_at b q Equal ≡ move_at b q Greater
 

@@ -1,13 +1,14 @@
 //! The plan of an automaton: how each of its moves is taken in.
 //!
 //! The moves of decorated machines have few shapes. Each fold of cells, as of the widths or of the values of a range,
-//! has its own operator and words, so the compiler makes a sweep for each shape that decides nothing.
+//! has its own operator and words, so the compiler makes a sweep for each shape that decides nothing. A move on `=` is
+//! between equal values, so the next cell is read as the cell in it, and no such move goes over pairs of values.
 
 ghost use Rattle.std.specs.Prelude.{◌≡◌, ◌<◌, IfSome, false, length, true};
 ghost use Rattle.ts_automaton.specs.Body.{move_of, move_on, node_of};
-ghost use Rattle.ts_automaton.specs.Formula.{Join, Leaf, formula, is_zero};
+ghost use Rattle.ts_automaton.specs.Formula.{Join, Leaf, is_zero};
 ghost use Rattle.ts_automaton.specs.Registers.{rests};
-ghost use Rattle.ts_automaton.specs.declared.expr.Atom.TheVariants.{C, D, Next, R};
+ghost use Rattle.ts_automaton.specs.declared.expr.Atom.TheVariants.{C, D, E, F, Next, PosInf as HighAtom, R};
 ghost use Rattle.ts_automaton.specs.declared.expr.Operator.TheVariants.{Fold};
 ghost use Rattle.ts_hull.specs.Cuts.{cut_of, is_front_move};
 ghost use Rattle.ts_hull.specs.Sealed.{move_at};
@@ -15,6 +16,7 @@ ghost use Rattle.ts_hull.specs.Splits.{TailOf, split_formula};
 ghost use Rattle.ts_row.specs.declared.plan.Equals.TheVariants.{WithGreater, WithLess};
 ghost use Rattle.ts_row.specs.declared.plan.Shape.TheVariants.{FoundNext, InsideNext, LongerNext};
 ghost use Rattle.ts_sweep.specs.Fronts.{IsNarrowMove};
+ghost use Rattle.ts_sweep.specs.Here.{here_move};
 ghost use Rattle.ts_row.specs.Plans.{
   IsPlanOf,
   IsShapeOf,
@@ -27,9 +29,11 @@ ghost use Rattle.ts_row.specs.Plans.{
   found_of,
   fronts,
   held_of,
+  least,
   narrow_fronts,
   range_op,
   range_start,
+  read,
   taken_in,
   twice,
   wide_result,
@@ -264,12 +268,12 @@ fn shape_of(c: Words, d: Words, r: Words) -> Option<Shape>
 }
 
 /// The fold of cells by which an operator over two expressions joins D with the worth of two cells.
-fn twice_by(o: Op, a: &Expr, b: &Expr) -> Option<CellFold>
-    ensures { IfSome result (λ f. Join (Fold o) (formula a.now) (formula b.now) ≡ twice f) }
+fn twice_by(o: Op, a: &Expr, b: &Expr, equal: bool) -> Option<CellFold>
+    ensures { IfSome result (λ f. Join (Fold o) (read equal a.now) (read equal b.now) ≡ twice f) }
 {
-    let word = word_of(b)?;
+    let word = word_of(b, equal)?;
     let f = fold_of(o, word)?;
-    if is_two(a, o, Atom::D, word) {
+    if is_two(a, o, Atom::D, word, equal) {
         Some(f)
     } else {
         None
@@ -277,24 +281,24 @@ fn twice_by(o: Op, a: &Expr, b: &Expr) -> Option<CellFold>
 }
 
 /// The fold of cells by which an expression joins D with the worth of two cells.
-fn twice_of(e: &Expr) -> Option<CellFold>
-    ensures { IfSome result (λ f. formula e.now ≡ twice f) }
+fn twice_of(e: &Expr, equal: bool) -> Option<CellFold>
+    ensures { IfSome result (λ f. read equal e.now ≡ twice f) }
 {
     match e {
-        Expr::Add(a, b) => twice_by(Op::Add, a, b),
-        Expr::Max(a, b) => twice_by(Op::Max, a, b),
-        Expr::Min(a, b) => twice_by(Op::Min, a, b),
+        Expr::Add(a, b) => twice_by(Op::Add, a, b, equal),
+        Expr::Max(a, b) => twice_by(Op::Max, a, b, equal),
+        Expr::Min(a, b) => twice_by(Op::Min, a, b, equal),
         _ => None,
     }
 }
 
 /// The shape of a move that keeps C and joins R with D and the worth of two cells.
-fn ended_twice(o: Op, taken: &Expr, d: &Expr) -> Option<Shape>
+fn ended_twice(o: Op, taken: &Expr, d: &Expr, equal: bool) -> Option<Shape>
     ensures { IfSome result (λ s. IsShapeOf false s
-        (narrow_fronts (Leaf C) (formula d.now) (Join (Fold o) (Leaf R) (formula taken.now)))) }
+        (narrow_fronts (Leaf C) (read equal d.now) (Join (Fold o) (Leaf R) (read equal taken.now)))) }
 {
-    let f = twice_of(taken)?;
-    if is_word(d, start_of(f)) {
+    let f = twice_of(taken, equal)?;
+    if is_word(d, start_of(f), equal) {
         Some(Shape::EndedTwice(range_by(o), f))
     } else {
         None
@@ -302,23 +306,23 @@ fn ended_twice(o: Op, taken: &Expr, d: &Expr) -> Option<Shape>
 }
 
 /// The shape of a move that keeps C and joins R with D and the worth of two cells, by its expressions of D and R.
-fn ended_twice_of(d: &Expr, r: &Expr) -> Option<Shape>
-    ensures { IfSome result (λ s. IsShapeOf false s (narrow_fronts (Leaf C) (formula d.now) (formula r.now))) }
+fn ended_twice_of(d: &Expr, r: &Expr, equal: bool) -> Option<Shape>
+    ensures { IfSome result (λ s. IsShapeOf false s (narrow_fronts (Leaf C) (read equal d.now) (read equal r.now))) }
 {
     match r {
-        Expr::Add(a, b) if is_word(a, Atom::R) => ended_twice(Op::Add, b, d),
-        Expr::Max(a, b) if is_word(a, Atom::R) => ended_twice(Op::Max, b, d),
-        Expr::Min(a, b) if is_word(a, Atom::R) => ended_twice(Op::Min, b, d),
+        Expr::Add(a, b) if is_word(a, Atom::R, equal) => ended_twice(Op::Add, b, d, equal),
+        Expr::Max(a, b) if is_word(a, Atom::R, equal) => ended_twice(Op::Max, b, d, equal),
+        Expr::Min(a, b) if is_word(a, Atom::R, equal) => ended_twice(Op::Min, b, d, equal),
         _ => None,
     }
 }
 
 /// The shape of a move that makes C of D and the worth of two cells.
-fn found_twice(c: &Expr, d: &Expr) -> Option<Shape>
-    ensures { IfSome result (λ s. IsShapeOf false s (narrow_fronts (formula c.now) (formula d.now) (Leaf R))) }
+fn found_twice(c: &Expr, d: &Expr, equal: bool) -> Option<Shape>
+    ensures { IfSome result (λ s. IsShapeOf false s (narrow_fronts (read equal c.now) (read equal d.now) (Leaf R))) }
 {
-    let f = twice_of(c)?;
-    if is_word(d, start_of(f)) {
+    let f = twice_of(c, equal)?;
+    if is_word(d, start_of(f), equal) {
         Some(Shape::FoundTwice(f))
     } else {
         None
@@ -326,105 +330,106 @@ fn found_twice(c: &Expr, d: &Expr) -> Option<Shape>
 }
 
 /// The shape of a move that takes in the worth of two cells, of a narrow automaton.
-fn twice_shape(t: &Turn) -> Option<Shape>
+fn twice_shape(t: &Turn, equal: bool) -> Option<Shape>
     ensures { IfSome result (λ s. IsShapeOf false s
-        (narrow_fronts (formula t.now.c) (formula t.now.d) (formula t.now.r))) }
+        (narrow_fronts (read equal t.now.c) (read equal t.now.d) (read equal t.now.r))) }
 {
-    if is_word(&t.r, Atom::R) {
-        found_twice(&t.c, &t.d)
-    } else if is_word(&t.c, Atom::C) {
-        ended_twice_of(&t.d, &t.r)
+    if is_word(&t.r, Atom::R, equal) {
+        found_twice(&t.c, &t.d, equal)
+    } else if is_word(&t.c, Atom::C, equal) {
+        ended_twice_of(&t.d, &t.r, equal)
     } else {
         None
     }
 }
 
 /// The shape of a move of few words, of a narrow automaton.
-fn short_shape(t: &Turn) -> Option<Shape>
+fn short_shape(t: &Turn, equal: bool) -> Option<Shape>
     ensures { IfSome result (λ s. IsShapeOf false s
-        (narrow_fronts (formula t.now.c) (formula t.now.d) (formula t.now.r))) }
+        (narrow_fronts (read equal t.now.c) (read equal t.now.d) (read equal t.now.r))) }
 {
-    shape_of(words_of(&t.c)?, words_of(&t.d)?, words_of(&t.r)?)
+    shape_of(
+        words_of(&t.c, equal)?,
+        words_of(&t.d, equal)?,
+        words_of(&t.r, equal)?,
+    )
 }
 
 /// The shape of a move of a narrow automaton.
-fn narrow_shape(t: &Turn) -> Option<Shape>
+fn narrow_shape(t: &Turn, equal: bool) -> Option<Shape>
     ensures { IfSome result (λ s. IsShapeOf false s
-        (narrow_fronts (formula t.now.c) (formula t.now.d) (formula t.now.r))) }
+        (narrow_fronts (read equal t.now.c) (read equal t.now.d) (read equal t.now.r))) }
 {
-    match short_shape(t) {
+    match short_shape(t, equal) {
         Some(s) => Some(s),
-        None => twice_shape(t),
+        None => twice_shape(t, equal),
     }
 }
 
-/// The expressions of E and F in a move of a shape.
-fn beside(s: Shape) -> (Words, Words)
-    ensures held { words_formula result.0 ≡ beside_held s }
-    ensures open { words_formula result.1 ≡ beside_open s }
+/// The expressions of E and F in a move of a shape of few words.
+fn beside(s: Shape) -> Option<(Words, Words)>
+    ensures { IfSome result (λ w. (words_formula w.0 ≡ beside_held s) × (words_formula w.1 ≡ beside_open s)) }
 {
     let least = Words::Two(Op::Min, Atom::F, Atom::This);
     match s {
-        Shape::Kept => (Words::Word(Atom::E), Words::Word(Atom::F)),
-        Shape::Longer(_) => (Words::Word(Atom::E), least),
-        Shape::Begun(_) => (Words::Word(Atom::E), Words::Word(Atom::PosInf)),
-        Shape::Found(_) => (least, Words::Word(Atom::PosInf)),
-        Shape::Inside(_) => (
+        Shape::Kept => Some((Words::Word(Atom::E), Words::Word(Atom::F))),
+        Shape::Longer(_) => Some((Words::Word(Atom::E), least)),
+        Shape::Begun(_) => Some((Words::Word(Atom::E), Words::Word(Atom::PosInf))),
+        Shape::Found(_) => Some((least, Words::Word(Atom::PosInf))),
+        Shape::Inside(_) => Some((
             Words::Three(Op::Min, Atom::E, Op::Min, Atom::F, Atom::This),
             Words::Word(Atom::PosInf),
-        ),
-        Shape::Ended(_, _) => (Words::Word(Atom::E), Words::Word(Atom::PosInf)),
-        Shape::Anew(_, _) => (Words::Word(Atom::Zero), Words::Word(Atom::PosInf)),
-        Shape::FoundTwice(_)
-        | Shape::EndedTwice(_, _)
-        | Shape::LongerNext(_)
-        | Shape::FoundNext(_)
-        | Shape::InsideNext(_)
-        | Shape::Other => { (Words::Word(Atom::Zero), Words::Word(Atom::Zero)) }
+        )),
+        Shape::Ended(_, _) => Some((Words::Word(Atom::E), Words::Word(Atom::PosInf))),
+        Shape::Anew(_, _) => Some((Words::Word(Atom::Zero), Words::Word(Atom::PosInf))),
+        _ => None,
     }
 }
 
 /// Whether an expression is a word.
-fn is_word(e: &Expr, word: Atom) -> bool
-    ensures { result ≡ true → formula e.now ≡ Leaf word }
+fn is_word(e: &Expr, word: Atom, equal: bool) -> bool
+    ensures { result ≡ true → read equal e.now ≡ Leaf word }
 {
-    match word_of(e) {
+    match word_of(e, equal) {
         Some(w) => w == word,
         None => false,
     }
 }
 
 /// Whether an expression is what a wide automaton holds, C less E.
-fn is_held(e: &Expr) -> bool
-    ensures { result ≡ true → formula e.now ≡ held_of true }
+fn is_held(e: &Expr, equal: bool) -> bool
+    ensures { result ≡ true → read equal e.now ≡ held_of true }
 {
     match e {
-        Expr::Sub(a, b) => is_word(a, Atom::C) && is_word(b, Atom::E),
+        Expr::Sub(a, b) => is_word(a, Atom::C, equal) && is_word(b, Atom::E, equal),
         _ => false,
     }
 }
 
 /// Whether an expression is an operator over two words.
-fn is_two(e: &Expr, o: Op, first: Atom, second: Atom) -> bool
-    ensures { result ≡ true → formula e.now ≡ Join (Fold o) (Leaf first) (Leaf second) }
+fn is_two(e: &Expr, o: Op, first: Atom, second: Atom, equal: bool) -> bool
+    ensures { result ≡ true → read equal e.now ≡ Join (Fold o) (Leaf first) (Leaf second) }
 {
     match (o, e) {
-        (Op::Add, Expr::Add(a, b)) => is_word(a, first) && is_word(b, second),
-        (Op::Max, Expr::Max(a, b)) => is_word(a, first) && is_word(b, second),
-        (Op::Min, Expr::Min(a, b)) => is_word(a, first) && is_word(b, second),
+        (Op::Add, Expr::Add(a, b)) => is_word(a, first, equal) && is_word(b, second, equal),
+        (Op::Max, Expr::Max(a, b)) => is_word(a, first, equal) && is_word(b, second, equal),
+        (Op::Min, Expr::Min(a, b)) => is_word(a, first, equal) && is_word(b, second, equal),
         _ => false,
     }
 }
 
 /// Whether an expression is an operator over a word and an operator over two more.
-fn is_three(e: &Expr, o: Op, first: Atom, p: Op, second: Atom, third: Atom) -> bool
-    ensures { result ≡ true → formula e.now
+fn is_three(e: &Expr, o: Op, first: Atom, p: Op, second: Atom, third: Atom, equal: bool) -> bool
+    ensures { result ≡ true → read equal e.now
         ≡ Join (Fold o) (Leaf first) (Join (Fold p) (Leaf second) (Leaf third)) }
 {
     match (o, e) {
-        (Op::Add, Expr::Add(a, b)) => is_word(a, first) && is_two(b, p, second, third),
-        (Op::Max, Expr::Max(a, b)) => is_word(a, first) && is_two(b, p, second, third),
-        (Op::Min, Expr::Min(a, b)) => is_word(a, first) && is_two(b, p, second, third),
+        (Op::Add, Expr::Add(a, b)) => is_word(a, first, equal)
+            && is_two(b, p, second, third, equal),
+        (Op::Max, Expr::Max(a, b)) => is_word(a, first, equal)
+            && is_two(b, p, second, third, equal),
+        (Op::Min, Expr::Min(a, b)) => is_word(a, first, equal)
+            && is_two(b, p, second, third, equal),
         _ => false,
     }
 }
@@ -451,73 +456,58 @@ fn worth_of(f: CellFold) -> Atom
 }
 
 /// Whether an expression is what a wide automaton finds of D and a cell, less the least.
-fn is_found(f: CellFold, e: &Expr) -> bool
-    ensures { result ≡ true → formula e.now ≡ found_of true (Fold (cell_op f)) (cell_word f) }
+fn is_found(f: CellFold, e: &Expr, equal: bool) -> bool
+    ensures { result ≡ true → read equal e.now ≡ found_of true (Fold (cell_op f)) (cell_word f) }
 {
     match e {
         Expr::Sub(a, b) => {
-            is_two(a, op_of(f), Atom::D, worth_of(f)) && is_two(b, Op::Min, Atom::F, Atom::This)
-        }
-        _ => false,
-    }
-}
-
-/// Whether an expression joins D with the worth of two cells by a fold.
-fn is_twice(f: CellFold, e: &Expr) -> bool
-    ensures { result ≡ true → formula e.now ≡ twice f }
-{
-    match (op_of(f), e) {
-        (Op::Add, Expr::Add(a, b)) => {
-            is_two(a, Op::Add, Atom::D, worth_of(f)) && is_word(b, worth_of(f))
-        }
-        (Op::Max, Expr::Max(a, b)) => {
-            is_two(a, Op::Max, Atom::D, worth_of(f)) && is_word(b, worth_of(f))
-        }
-        (Op::Min, Expr::Min(a, b)) => {
-            is_two(a, Op::Min, Atom::D, worth_of(f)) && is_word(b, worth_of(f))
+            is_two(a, op_of(f), Atom::D, worth_of(f), equal)
+                && is_two(b, Op::Min, Atom::F, Atom::This, equal)
         }
         _ => false,
     }
 }
 
 /// Whether an expression is what R takes in by a move of a shape, in a wide automaton.
-fn is_taken_in(s: Shape, e: &Expr) -> bool
-    ensures { result ≡ true → formula e.now ≡ taken_in s }
+fn is_taken_in(s: Shape, e: &Expr, equal: bool) -> bool
+    ensures { result ≡ true → read equal e.now ≡ taken_in s }
 {
     match s {
-        Shape::Ended(_, f) => is_found(f, e),
-        Shape::EndedTwice(_, f) => is_twice(f, e),
-        _ => is_held(e),
+        Shape::Ended(_, f) => is_found(f, e, equal),
+        Shape::EndedTwice(_, _) => false,
+        _ => is_held(e, equal),
     }
 }
 
 /// Whether an expression joins R by the fold of ranges with what it takes in by a move of a shape.
-fn is_joined(g: RangeFold, s: Shape, e: &Expr) -> bool
-    ensures { result ≡ true → formula e.now ≡ Join (Fold (range_op g)) (Leaf R) (taken_in s) }
+fn is_joined(g: RangeFold, s: Shape, e: &Expr, equal: bool) -> bool
+    ensures { result ≡ true → read equal e.now ≡ Join (Fold (range_op g)) (Leaf R) (taken_in s) }
 {
     match (g, e) {
-        (RangeFold::Sum, Expr::Add(a, b)) => is_word(a, Atom::R) && is_taken_in(s, b),
-        (RangeFold::Highest, Expr::Max(a, b)) => is_word(a, Atom::R) && is_taken_in(s, b),
-        (RangeFold::Lowest, Expr::Min(a, b)) => is_word(a, Atom::R) && is_taken_in(s, b),
+        (RangeFold::Sum, Expr::Add(a, b)) => is_word(a, Atom::R, equal) && is_taken_in(s, b, equal),
+        (RangeFold::Highest, Expr::Max(a, b)) => is_word(a, Atom::R, equal)
+            && is_taken_in(s, b, equal),
+        (RangeFold::Lowest, Expr::Min(a, b)) => is_word(a, Atom::R, equal)
+            && is_taken_in(s, b, equal),
         _ => false,
     }
 }
 
 /// Whether an expression is that of R in a move of a shape, in a wide automaton.
-fn is_wide_result(s: Shape, e: &Expr) -> bool
-    ensures { result ≡ true → formula e.now ≡ wide_result s }
+fn is_wide_result(s: Shape, e: &Expr, equal: bool) -> bool
+    ensures { result ≡ true → read equal e.now ≡ wide_result s }
 {
     match s {
-        Shape::Ended(g, _) => is_joined(g, s, e),
-        Shape::Anew(g, _) => is_joined(g, s, e),
-        Shape::EndedTwice(g, _) => is_joined(g, s, e),
-        _ => is_word(e, Atom::R),
+        Shape::Ended(g, _) => is_joined(g, s, e, equal),
+        Shape::Anew(g, _) => is_joined(g, s, e, equal),
+        Shape::EndedTwice(g, _) => is_joined(g, s, e, equal),
+        _ => is_word(e, Atom::R, equal),
     }
 }
 
 /// The words of R in a narrow automaton, where the wide one joins it with what it holds or finds.
-fn narrow_words(o: Op, taken: &Expr) -> Words {
-    if is_held(taken) {
+fn narrow_words(o: Op, taken: &Expr, equal: bool) -> Words {
+    if is_held(taken, equal) {
         Words::Two(o, Atom::R, Atom::C)
     } else {
         Words::Three(o, Atom::R, Op::Max, Atom::D, Atom::This)
@@ -525,38 +515,139 @@ fn narrow_words(o: Op, taken: &Expr) -> Words {
 }
 
 /// The words of R in a narrow automaton that folds the greatest cells as the wide one does.
-fn narrow_result(e: &Expr) -> Option<Words> {
+fn narrow_result(e: &Expr, equal: bool) -> Option<Words> {
     match e {
         Expr::R => Some(Words::Word(Atom::R)),
-        Expr::Add(_, b) => Some(narrow_words(Op::Add, b)),
-        Expr::Max(_, b) => Some(narrow_words(Op::Max, b)),
-        Expr::Min(_, b) => Some(narrow_words(Op::Min, b)),
+        Expr::Add(_, b) => Some(narrow_words(Op::Add, b, equal)),
+        Expr::Max(_, b) => Some(narrow_words(Op::Max, b, equal)),
+        Expr::Min(_, b) => Some(narrow_words(Op::Min, b, equal)),
         _ => None,
     }
 }
 
 /// Whether an expression is that of the words.
-fn is_words(e: &Expr, w: Words) -> bool
-    ensures { result ≡ true → formula e.now ≡ words_formula w }
+fn is_words(e: &Expr, w: Words, equal: bool) -> bool
+    ensures { result ≡ true → read equal e.now ≡ words_formula w }
 {
     match w {
-        Words::Word(a) => is_word(e, a),
-        Words::Two(o, a, b) => is_two(e, o, a, b),
-        Words::Three(o, a, p, b, c) => is_three(e, o, a, p, b, c),
+        Words::Word(a) => is_word(e, a, equal),
+        Words::Two(o, a, b) => is_two(e, o, a, b, equal),
+        Words::Three(o, a, p, b, c) => is_three(e, o, a, p, b, c, equal),
     }
 }
 
 /// The shape of a move of few words, of a wide automaton.
-fn wide_shape(t: &Turn) -> Option<Shape>
+fn short_wide_shape(t: &Turn, equal: bool) -> Option<Shape>
     ensures { IfSome result (λ s. IsShapeOf true s
-        (fronts (formula t.now.c) (formula t.now.e) (formula t.now.d) (formula t.now.f) (formula t.now.r))) }
+        (fronts (read equal t.now.c) (read equal t.now.e) (read equal t.now.d) (read equal t.now.f)
+        (read equal t.now.r))) }
 {
-    let s = shape_of(words_of(&t.c)?, words_of(&t.d)?, narrow_result(&t.r)?)?;
-    let (held, open) = beside(s);
-    if is_words(&t.e, held) && is_words(&t.f, open) && is_wide_result(s, &t.r) {
+    let s = shape_of(
+        words_of(&t.c, equal)?,
+        words_of(&t.d, equal)?,
+        narrow_result(&t.r, equal)?,
+    )?;
+    let (held, open) = beside(s)?;
+    if is_words(&t.e, held, equal)
+        && is_words(&t.f, open, equal)
+        && is_wide_result(s, &t.r, equal)
+    {
         Some(s)
     } else {
         None
+    }
+}
+
+/// Whether an expression is the least of F and the cell, twice.
+fn is_least_twice(e: &Expr, equal: bool) -> bool
+    ensures { result ≡ true → read equal e.now ≡ least (least (Leaf F)) }
+{
+    match e {
+        Expr::Min(a, b) => {
+            is_two(a, Op::Min, Atom::F, Atom::This, equal) && is_word(b, Atom::This, equal)
+        }
+        _ => false,
+    }
+}
+
+/// The shape of a move that makes C of D and the worth of two cells, of a wide automaton.
+fn wide_found_twice(t: &Turn, equal: bool) -> Option<Shape>
+    ensures { IfSome result (λ s. IsShapeOf true s
+        (fronts (read equal t.now.c) (read equal t.now.e) (read equal t.now.d) (read equal t.now.f)
+        (read equal t.now.r))) }
+{
+    let f = twice_of(&t.c, equal)?;
+    if is_word(&t.d, start_of(f), equal)
+        && is_least_twice(&t.e, equal)
+        && is_word(&t.f, Atom::PosInf, equal)
+        && is_word(&t.r, Atom::R, equal)
+    {
+        Some(Shape::FoundTwice(f))
+    } else {
+        None
+    }
+}
+
+/// The shape of a move that joins R with what is found of D and the worth of two cells less the least, by what R takes
+/// in.
+fn wide_ended_by(o: Op, taken: &Expr, d: &Expr, equal: bool) -> Option<Shape>
+    ensures { IfSome result (λ s. IsShapeOf true s (fronts (Leaf C) (Leaf E) (read equal d.now) (Leaf HighAtom)
+        (Join (Fold o) (Leaf R) (read equal taken.now)))) }
+{
+    match taken {
+        Expr::Sub(a, b) if is_least_twice(b, equal) => {
+            let f = twice_of(a, equal)?;
+            if is_word(d, start_of(f), equal) {
+                Some(Shape::EndedTwice(range_by(o), f))
+            } else {
+                None
+            }
+        }
+        _ => None,
+    }
+}
+
+/// The shape of such a move by its expressions of D and R.
+fn wide_ended_of(d: &Expr, r: &Expr, equal: bool) -> Option<Shape>
+    ensures { IfSome result (λ s. IsShapeOf true s (fronts (Leaf C) (Leaf E) (read equal d.now) (Leaf HighAtom)
+        (read equal r.now))) }
+{
+    match r {
+        Expr::Add(a, b) if is_word(a, Atom::R, equal) => wide_ended_by(Op::Add, b, d, equal),
+        Expr::Max(a, b) if is_word(a, Atom::R, equal) => wide_ended_by(Op::Max, b, d, equal),
+        Expr::Min(a, b) if is_word(a, Atom::R, equal) => wide_ended_by(Op::Min, b, d, equal),
+        _ => None,
+    }
+}
+
+/// The shape of a move that joins R with the worth of two cells, of a wide automaton.
+fn wide_ended_twice(t: &Turn, equal: bool) -> Option<Shape>
+    ensures { IfSome result (λ s. IsShapeOf true s
+        (fronts (read equal t.now.c) (read equal t.now.e) (read equal t.now.d) (read equal t.now.f)
+        (read equal t.now.r))) }
+{
+    if is_word(&t.c, Atom::C, equal)
+        && is_word(&t.e, Atom::E, equal)
+        && is_word(&t.f, Atom::PosInf, equal)
+    {
+        wide_ended_of(&t.d, &t.r, equal)
+    } else {
+        None
+    }
+}
+
+/// The shape of a move of a wide automaton.
+fn wide_shape(t: &Turn, equal: bool) -> Option<Shape>
+    ensures { IfSome result (λ s. IsShapeOf true s
+        (fronts (read equal t.now.c) (read equal t.now.e) (read equal t.now.d) (read equal t.now.f)
+        (read equal t.now.r))) }
+{
+    match short_wide_shape(t, equal) {
+        Some(s) => Some(s),
+        None => match wide_found_twice(t, equal) {
+            Some(s) => Some(s),
+            None => wide_ended_twice(t, equal),
+        },
     }
 }
 
@@ -568,12 +659,16 @@ fn is_front_move(t: &Turn) -> bool
 }
 
 /// The shape of a move of an automaton of a width whose expressions don't read the next cell, if it is known.
-fn known_shape(t: &Turn, wide: bool) -> Option<Shape>
-    requires front { is_front_move (move_of t.now) ≡ true }
-    requires rests { rests is_zero wide (move_of t.now).to ≡ true }
-    ensures { IfSome result (λ s. IsShapeOf wide s (cut_of (move_of t.now))) }
+fn known_shape(t: &Turn, wide: bool, equal: bool) -> Option<Shape>
+    requires front { is_front_move (here_move equal (move_of t.now)) ≡ true }
+    requires rests { rests is_zero wide (here_move equal (move_of t.now)).to ≡ true }
+    ensures { IfSome result (λ s. IsShapeOf wide s (cut_of (here_move equal (move_of t.now)))) }
 {
-    if wide { wide_shape(t) } else { narrow_shape(t) }
+    if wide {
+        wide_shape(t, equal)
+    } else {
+        narrow_shape(t, equal)
+    }
 }
 
 /// The fold of cells whose operator joins something with the next cell.
@@ -588,31 +683,35 @@ fn next_fold(e: &Expr) -> Option<CellFold> {
 
 /// Whether an expression is an operator over two words and the next cell, the two words first.
 fn is_two_next(e: &Expr, o: Op, first: Atom, second: Atom) -> bool
-    ensures { result ≡ true → formula e.now
+    ensures { result ≡ true → read false e.now
         ≡ Join (Fold o) (Join (Fold o) (Leaf first) (Leaf second)) (Leaf Next) }
 {
     match (o, e) {
-        (Op::Add, Expr::Add(a, b)) => is_two(a, o, first, second) && is_word(b, Atom::Next),
-        (Op::Max, Expr::Max(a, b)) => is_two(a, o, first, second) && is_word(b, Atom::Next),
-        (Op::Min, Expr::Min(a, b)) => is_two(a, o, first, second) && is_word(b, Atom::Next),
+        (Op::Add, Expr::Add(a, b)) => is_two(a, o, first, second, false)
+            && is_word(b, Atom::Next, false),
+        (Op::Max, Expr::Max(a, b)) => is_two(a, o, first, second, false)
+            && is_word(b, Atom::Next, false),
+        (Op::Min, Expr::Min(a, b)) => is_two(a, o, first, second, false)
+            && is_word(b, Atom::Next, false),
         _ => false,
     }
 }
 
 /// Whether a move has the shape `LongerNext`.
 fn is_longer_next(t: &Turn, f: CellFold, wide: bool) -> bool
-    requires rests { rests is_zero wide (move_of t.now).to ≡ true }
-    ensures { result ≡ true → IsShapeOf wide (LongerNext f) (cut_of (move_of t.now)) }
+    requires rests { rests is_zero wide (here_move false (move_of t.now)).to ≡ true }
+    ensures { result ≡ true → IsShapeOf wide (LongerNext f) (cut_of (here_move false (move_of t.now))) }
 {
-    is_word(&t.c, Atom::C)
-        && is_two(&t.d, op_of(f), Atom::D, Atom::Next)
-        && is_word(&t.r, Atom::R)
-        && (!wide || is_word(&t.e, Atom::E) && is_two(&t.f, Op::Min, Atom::F, Atom::Next))
+    is_word(&t.c, Atom::C, false)
+        && is_two(&t.d, op_of(f), Atom::D, Atom::Next, false)
+        && is_word(&t.r, Atom::R, false)
+        && (!wide
+            || is_word(&t.e, Atom::E, false) && is_two(&t.f, Op::Min, Atom::F, Atom::Next, false))
 }
 
 /// Whether an expression joins D with what the cell is worth in a fold, and then with the next cell.
 fn is_found_cell(e: &Expr, f: CellFold) -> bool
-    ensures { result ≡ true → split_formula (formula e.now)
+    ensures { result ≡ true → split_formula (read false e.now)
         ≡ TailOf (cell_op f) (Join (Fold (cell_op f)) (Leaf D) (cell_word f)) }
 {
     is_two_next(e, op_of(f), Atom::D, worth_of(f))
@@ -620,32 +719,41 @@ fn is_found_cell(e: &Expr, f: CellFold) -> bool
 
 /// Whether a move has the shape `FoundNext`.
 fn is_found_next(t: &Turn, f: CellFold, wide: bool) -> bool
-    requires rests { rests is_zero wide (move_of t.now).to ≡ true }
-    ensures { result ≡ true → IsShapeOf wide (FoundNext f) (cut_of (move_of t.now)) }
+    requires rests { rests is_zero wide (here_move false (move_of t.now)).to ≡ true }
+    ensures { result ≡ true → IsShapeOf wide (FoundNext f) (cut_of (here_move false (move_of t.now))) }
 {
     is_found_cell(&t.c, f)
-        && is_word(&t.d, start_of(f))
-        && is_word(&t.r, Atom::R)
-        && (!wide || is_two_next(&t.e, Op::Min, Atom::F, Atom::This) && is_word(&t.f, Atom::PosInf))
+        && is_word(&t.d, start_of(f), false)
+        && is_word(&t.r, Atom::R, false)
+        && (!wide
+            || is_two_next(&t.e, Op::Min, Atom::F, Atom::This)
+                && is_word(&t.f, Atom::PosInf, false))
 }
 
 /// Whether a move has the shape `InsideNext`.
 fn is_inside_next(t: &Turn, f: CellFold, wide: bool) -> bool
-    requires rests { rests is_zero wide (move_of t.now).to ≡ true }
-    ensures { result ≡ true → IsShapeOf wide (InsideNext f) (cut_of (move_of t.now)) }
+    requires rests { rests is_zero wide (here_move false (move_of t.now)).to ≡ true }
+    ensures { result ≡ true → IsShapeOf wide (InsideNext f) (cut_of (here_move false (move_of t.now))) }
 {
-    is_three(&t.c, op_of(f), Atom::C, op_of(f), Atom::D, Atom::Next)
-        && is_word(&t.d, start_of(f))
-        && is_word(&t.r, Atom::R)
+    is_three(
+        &t.c,
+        op_of(f),
+        Atom::C,
+        op_of(f),
+        Atom::D,
+        Atom::Next,
+        false,
+    ) && is_word(&t.d, start_of(f), false)
+        && is_word(&t.r, Atom::R, false)
         && (!wide
-            || is_three(&t.e, Op::Min, Atom::E, Op::Min, Atom::F, Atom::Next)
-                && is_word(&t.f, Atom::PosInf))
+            || is_three(&t.e, Op::Min, Atom::E, Op::Min, Atom::F, Atom::Next, false)
+                && is_word(&t.f, Atom::PosInf, false))
 }
 
 /// The shape of a move that makes C of something and the next cell, if it is known.
 fn held_next(t: &Turn, wide: bool) -> Option<Shape>
-    requires rests { rests is_zero wide (move_of t.now).to ≡ true }
-    ensures { IfSome result (λ s. IsShapeOf wide s (cut_of (move_of t.now))) }
+    requires rests { rests is_zero wide (here_move false (move_of t.now)).to ≡ true }
+    ensures { IfSome result (λ s. IsShapeOf wide s (cut_of (here_move false (move_of t.now)))) }
 {
     let f = next_fold(&t.c)?;
     if is_found_next(t, f, wide) {
@@ -659,8 +767,8 @@ fn held_next(t: &Turn, wide: bool) -> Option<Shape>
 
 /// The shape of a move that reads the next cell, if it is known.
 fn next_shape(t: &Turn, wide: bool) -> Option<Shape>
-    requires rests { rests is_zero wide (move_of t.now).to ≡ true }
-    ensures { IfSome result (λ s. IsShapeOf wide s (cut_of (move_of t.now))) }
+    requires rests { rests is_zero wide (here_move false (move_of t.now)).to ≡ true }
+    ensures { IfSome result (λ s. IsShapeOf wide s (cut_of (here_move false (move_of t.now)))) }
 {
     match next_fold(&t.d) {
         Some(f) => {
@@ -674,16 +782,28 @@ fn next_shape(t: &Turn, wide: bool) -> Option<Shape>
     }
 }
 
+/// The shape of a move on `<` or on `>`, if it is known.
+fn apart_shape(t: &Turn, wide: bool) -> Option<Shape>
+    requires { rests is_zero wide (move_of t.now).to ≡ true }
+    ensures { IfSome result (λ s. IsShapeOf wide s (cut_of (here_move false (move_of t.now)))) }
+{
+    if is_front_move(t) {
+        known_shape(t, wide, false)
+    } else {
+        next_shape(t, wide)
+    }
+}
+
 impl Shape {
-    /// The shape of a move of an automaton of a width.
-    fn of(t: &Turn, wide: bool) -> Shape
+    /// The shape of a move of an automaton of a width, as it is read on `=` or else on another letter.
+    fn of(t: &Turn, wide: bool, equal: bool) -> Shape
         requires { rests is_zero wide (move_of t.now).to ≡ true }
-        ensures { IsShapeOf wide result (cut_of (move_of t.now)) }
+        ensures { IsShapeOf wide result (cut_of (here_move equal (move_of t.now))) }
     {
-        let known = if is_front_move(t) {
-            known_shape(t, wide)
+        let known = if equal {
+            known_shape(t, wide, true)
         } else {
-            next_shape(t, wide)
+            apart_shape(t, wide)
         };
         match known {
             Some(shape) => shape,
@@ -739,9 +859,9 @@ impl StatePlan {
         let greater = turn(a, q, Letter::Greater);
         let equals = equals_of(less, equal, greater);
         StatePlan {
-            less: Shape::of(less, a.wide()),
-            equal: Shape::of(equal, a.wide()),
-            greater: Shape::of(greater, a.wide()),
+            less: Shape::of(less, a.wide(), false),
+            equal: Shape::of(equal, a.wide(), true),
+            greater: Shape::of(greater, a.wide(), false),
             equals,
         }
     }

@@ -7,11 +7,12 @@ ghost use Rattle.ts_automaton.specs.Registers.{rests};
 ghost use Rattle.ts_base.specs.declared.letter.Letter.TheVariants.{Equal};
 ghost use Rattle.ts_hull.specs.Cuts.{cut_of};
 ghost use Rattle.ts_hull.specs.Sealed.{move_at};
-ghost use Rattle.ts_row.specs.Plans.{IsPlanOf, IsShapeOf, IsStatePlan};
+ghost use Rattle.ts_row.specs.Plans.{IsPlanOf, IsShapeOf, IsStatePlan, cut_at, is_equal};
 ghost use Rattle.ts_row.specs.Rows.{HasTaken, IsColumn, IsRow, hull_in, lanes_of, next_hull, nothing, seen_gives};
 ghost use Rattle.ts_row.specs.Takings.{HasMoved, IsCovered, count_in, taken_to, two_taken_to, value_in};
 ghost use Rattle.ts_sweep.specs.Columns.{hull_at};
 ghost use Rattle.ts_sweep.specs.Fronts.{IsMoveFor};
+ghost use Rattle.ts_sweep.specs.Here.{here_move};
 ghost use Rattle.ts_sweep.specs.Sides.{has_wide, lane_count, seen_hull, sides};
 
 use crate::between::{Between, On};
@@ -49,12 +50,13 @@ fn planned_move<'a, const N: usize>(
     requires width { a.now.wide ≡ has_wide N }
     requires state { q < length a.now.states }
     requires alone { letter ≡ Equal → twin ≡ false }
-    requires shape { IsShapeOf a.now.wide shape (cut_of (move_at a.now q letter)) }
+    requires shape { IsShapeOf a.now.wide shape (cut_at a.now q letter) }
     ensures value { move_of result.turn.now ≡ move_at a.now q letter }
     ensures leads { result.turn.now.next < length a.now.states }
     ensures rests { rests is_zero (has_wide N) (move_of result.turn.now).to ≡ true }
     ensures suits { IsMoveFor (sides N) (move_of result.turn.now) }
-    ensures shape { IsShapeOf (has_wide N) result.shape (cut_of (move_of result.turn.now)) }
+    ensures shape { IsShapeOf (has_wide N) result.shape
+        (cut_of (here_move (is_equal result.on.letter) (move_of result.turn.now))) }
     ensures letter { result.on.letter ≡ letter }
     ensures twin { result.on.twin ≡ twin }
 {
@@ -102,7 +104,8 @@ fn take_turn<const N: usize>(m: Planned<'_>, t: &Between<'_, N>, next: &mut [Pac
     requires covered { IsCovered N t.now }
     requires width { rests is_zero (has_wide N) (move_of m.turn.now).to ≡ true }
     requires suits { IsMoveFor (sides N) (move_of m.turn.now) }
-    requires shape { IsShapeOf (has_wide N) m.shape (cut_of (move_of m.turn.now)) }
+    requires shape { IsShapeOf (has_wide N) m.shape
+        (cut_of (here_move (is_equal m.on.letter) (move_of m.turn.now))) }
     requires next_packed { IsColumn N (count_in t.now.next_values) next.old }
     ensures packed { IsColumn N (count_in t.now.next_values) next.new }
     ensures moved { HasMoved N t.now m.entry.on (move_of m.entry.turn.now) next.old next.new }
@@ -129,7 +132,8 @@ fn take_move<const N: usize>(m: Planned<'_>, t: &Between<'_, N>, next: &mut Pack
     requires covered { IsCovered N t.now }
     requires width { rests is_zero (has_wide N) (move_of m.turn.now).to ≡ true }
     requires suits { IsMoveFor (sides N) (move_of m.turn.now) }
-    requires shape { IsShapeOf (has_wide N) m.shape (cut_of (move_of m.turn.now)) }
+    requires shape { IsShapeOf (has_wide N) m.shape
+        (cut_of (here_move (is_equal m.on.letter) (move_of m.turn.now))) }
     requires leads { m.turn.now.next < length next.old }
     requires row { IsRow N (length next.old) (count_in t.now.next_values) next.old }
     ensures row { IsRow N (length next.old) (count_in t.now.next_values) next.new }
@@ -149,10 +153,12 @@ fn take_two<const N: usize>(
     requires covered { IsCovered N t.now }
     requires width { rests is_zero (has_wide N) (move_of m.turn.now).to ≡ true }
     requires suits { IsMoveFor (sides N) (move_of m.turn.now) }
-    requires shape { IsShapeOf (has_wide N) m.shape (cut_of (move_of m.turn.now)) }
+    requires shape { IsShapeOf (has_wide N) m.shape
+        (cut_of (here_move (is_equal m.on.letter) (move_of m.turn.now))) }
     requires other_width { rests is_zero (has_wide N) (move_of k.turn.now).to ≡ true }
     requires other_suits { IsMoveFor (sides N) (move_of k.turn.now) }
-    requires other_shape { IsShapeOf (has_wide N) k.shape (cut_of (move_of k.turn.now)) }
+    requires other_shape { IsShapeOf (has_wide N) k.shape
+        (cut_of (here_move (is_equal k.on.letter) (move_of k.turn.now))) }
     requires leads { m.turn.now.next < length next.old }
     requires other_leads { k.turn.now.next < length next.old }
     requires row { IsRow N (length next.old) (count_in t.now.next_values) next.old }

@@ -12,12 +12,13 @@ ghost use Rattle.ts_row.specs.Plans.{
   cell_start,
   cell_word,
   ended_fronts,
-  ended_twice_fronts,
   found_fronts,
   found_of,
   found_twice_fronts,
+  found_twice_of,
   held_of,
   inside_fronts,
+  less_of,
   longer_fronts,
   range_op,
   range_start,
@@ -71,6 +72,36 @@ fn least<const K: usize>(register: Register<K>) -> Join<Lesser, Register<K>, Thi
     Join {
         by: Lesser,
         left: register,
+        right: This,
+    }
+}
+
+/// `D` with the worth of a cell.
+#[inline(always)]
+fn once<O: Operator, W: Front>(by: O, word: W) -> Join<O, Register<2>, W> {
+    Join {
+        by,
+        left: Register::<2>,
+        right: word,
+    }
+}
+
+/// `D` with the worth of two cells.
+#[inline(always)]
+fn twice<O: Operator, W: Front>(by: O, word: W) -> Join<O, Join<O, Register<2>, W>, W> {
+    Join {
+        by,
+        left: once(by, word),
+        right: word,
+    }
+}
+
+/// The least of `F` and the cell, twice.
+#[inline(always)]
+fn least_twice() -> Join<Lesser, Join<Lesser, Register<3>, This>, This> {
+    Join {
+        by: Lesser,
+        left: least(Register::<3>),
         right: This,
     }
 }
@@ -263,13 +294,13 @@ fn ended_as<const N: usize, O: Operator, X: Front, V: Front>(
     sweep_as(parts, on, t, next)
 }
 
-/// A move that joins `R` with what a row of the width finds of `D` and a word, in a wide one less the least.
+/// A move that joins `R` with what a row of the width finds, in a wide one less the least.
 #[inline(always)]
-fn ended_by<const N: usize, O: Operator, M: Operator, P: Operator, W: Front, V: Front>(
+fn ended_by<const N: usize, O: Operator, M: Operator, X: Front, Y: Front, V: Front>(
     by: O,
     minus: M,
-    fold: P,
-    word: W,
+    found: X,
+    low: Y,
     start: V,
     on: On,
     t: &Between<'_, N>,
@@ -280,23 +311,18 @@ fn ended_by<const N: usize, O: Operator, M: Operator, P: Operator, W: Front, V: 
     requires next_packed { IsColumn N (count_in t.now.next_values) next.old }
     ensures packed { IsColumn N (count_in t.now.next_values) next.new }
     ensures taken { result ≡ true → MovesAs N t.now on (ended_fronts (O.op by)
-        (found_of (has_wide N) (P.op fold) (W.formula word)) (V.formula start)) next.old next.new }
+        (less_of (has_wide N) (X.formula found) (Y.formula low)) (V.formula start)) next.old next.new }
     ensures kept { result ≡ false → next.new ≡ next.old }
 {
-    let whole = Join {
-        by: fold,
-        left: Register::<2>,
-        right: word,
-    };
     if PackedHull::<N>::is_wide() {
         let less = Join {
             by: minus,
-            left: whole,
-            right: least(Register::<3>),
+            left: found,
+            right: low,
         };
         ended_as(by, less, start, on, t, next)
     } else {
-        ended_as(by, whole, start, on, t, next)
+        ended_as(by, found, start, on, t, next)
     }
 }
 
@@ -380,7 +406,7 @@ fn found_twice_as<const N: usize, O: Operator, W: Front, V: Front>(
         (found_twice_fronts (O.op by) (W.formula word) (V.formula start)) next.old next.new }
     ensures kept { result ≡ false → next.new ≡ next.old }
 {
-    let once = Join {
+    let first = Join {
         by,
         left: Register::<2>,
         right: word,
@@ -389,61 +415,17 @@ fn found_twice_as<const N: usize, O: Operator, W: Front, V: Front>(
         c: Whole {
             front: Join {
                 by,
-                left: once,
+                left: first,
                 right: word,
             },
         },
-        e: Whole { front: Zero },
+        e: Whole {
+            front: least_twice(),
+        },
         d: Whole { front: start },
-        f: Whole { front: Zero },
+        f: Whole { front: High },
         r: Whole {
             front: Register::<4>,
-        },
-    };
-    sweep_as(parts, on, t, next)
-}
-
-/// A move that joins `R` with `D` and the worth of two cells, and resets `D`.
-#[inline(never)]
-fn ended_twice_as<const N: usize, O: Operator, P: Operator, W: Front, V: Front>(
-    by: O,
-    fold: P,
-    word: W,
-    start: V,
-    on: On,
-    t: &Between<'_, N>,
-    next: &mut [PackedHull<N>],
-) -> bool
-    requires covered { IsCovered N t.now }
-    requires next_packed { IsColumn N (count_in t.now.next_values) next.old }
-    ensures packed { IsColumn N (count_in t.now.next_values) next.new }
-    ensures taken { result ≡ true → MovesAs N t.now on
-        (ended_twice_fronts (O.op by) (P.op fold) (W.formula word) (V.formula start)) next.old next.new }
-    ensures kept { result ≡ false → next.new ≡ next.old }
-{
-    let once = Join {
-        by: fold,
-        left: Register::<2>,
-        right: word,
-    };
-    let twice = Join {
-        by: fold,
-        left: once,
-        right: word,
-    };
-    let parts = Parts {
-        c: Whole {
-            front: Register::<0>,
-        },
-        e: Whole { front: Zero },
-        d: Whole { front: start },
-        f: Whole { front: Zero },
-        r: Whole {
-            front: Join {
-                by,
-                left: Register::<4>,
-                right: twice,
-            },
         },
     };
     sweep_as(parts, on, t, next)
@@ -543,14 +525,14 @@ fn inside<const N: usize>(
     }
 }
 
-/// Takes in a move of the shape `Ended`, with any operator for the ranges, by a sum and a difference.
+/// Takes in a move that ends ranges, with any operator for them, by a sum and a difference.
 #[inline(always)]
-fn ended_from<const N: usize, S: Operator, M: Operator, P: Operator, W: Front, V: Front>(
+fn ended_from<const N: usize, S: Operator, M: Operator, X: Front, Y: Front, V: Front>(
     g: RangeFold,
     plus: S,
     minus: M,
-    fold: P,
-    word: W,
+    found: X,
+    low: Y,
     start: V,
     on: On,
     t: &Between<'_, N>,
@@ -562,23 +544,23 @@ fn ended_from<const N: usize, S: Operator, M: Operator, P: Operator, W: Front, V
     requires next_packed { IsColumn N (count_in t.now.next_values) next.old }
     ensures packed { IsColumn N (count_in t.now.next_values) next.new }
     ensures taken { result ≡ true → MovesAs N t.now on (ended_fronts (Fold (range_op g))
-        (found_of (has_wide N) (P.op fold) (W.formula word)) (V.formula start)) next.old next.new }
+        (less_of (has_wide N) (X.formula found) (Y.formula low)) (V.formula start)) next.old next.new }
     ensures kept { result ≡ false → next.new ≡ next.old }
 {
     match g {
-        RangeFold::Sum => ended_by(plus, minus, fold, word, start, on, t, next),
-        RangeFold::Highest => ended_by(Greater, minus, fold, word, start, on, t, next),
-        RangeFold::Lowest => ended_by(Lesser, minus, fold, word, start, on, t, next),
+        RangeFold::Sum => ended_by(plus, minus, found, low, start, on, t, next),
+        RangeFold::Highest => ended_by(Greater, minus, found, low, start, on, t, next),
+        RangeFold::Lowest => ended_by(Lesser, minus, found, low, start, on, t, next),
     }
 }
 
-/// Takes in a move of the shape `Ended` where the cells begin with an infinity, which no plain sum takes: where one may
-/// still be in `D`, sums are clamped.
+/// Takes in a move that ends ranges whose cells begin with an infinity, which no plain sum takes: where one may still
+/// be in `D`, sums are clamped.
 #[inline(always)]
-fn ended_open<const N: usize, P: Operator, W: Front, V: Front>(
+fn ended_open<const N: usize, X: Front, Y: Front, V: Front>(
     g: RangeFold,
-    fold: P,
-    word: W,
+    found: X,
+    low: Y,
     start: V,
     on: On,
     t: &Between<'_, N>,
@@ -588,13 +570,13 @@ fn ended_open<const N: usize, P: Operator, W: Front, V: Front>(
     requires next_packed { IsColumn N (count_in t.now.next_values) next.old }
     ensures packed { IsColumn N (count_in t.now.next_values) next.new }
     ensures taken { result ≡ true → MovesAs N t.now on (ended_fronts (Fold (range_op g))
-        (found_of (has_wide N) (P.op fold) (W.formula word)) (V.formula start)) next.old next.new }
+        (less_of (has_wide N) (X.formula found) (Y.formula low)) (V.formula start)) next.old next.new }
     ensures kept { result ≡ false → next.new ≡ next.old }
 {
-    if ended_from(g, Plus, Minus, fold, word, start, on, t, next) {
+    if ended_from(g, Plus, Minus, found, low, start, on, t, next) {
         return true;
     }
-    ended_from(g, ClampedPlus, ClampedMinus, fold, word, start, on, t, next)
+    ended_from(g, ClampedPlus, ClampedMinus, found, low, start, on, t, next)
 }
 
 /// Takes in a move of the shape `Ended`.
@@ -613,12 +595,13 @@ fn ended<const N: usize>(
         (found_of (has_wide N) (Fold (cell_op f)) (cell_word f)) (cell_start f)) next.old next.new }
     ensures kept { result ≡ false → next.new ≡ next.old }
 {
+    let low = least(Register::<3>);
     match f {
-        CellFold::Ones => ended_from(g, Plus, Minus, Greater, One, One, on, t, next),
-        CellFold::Width => ended_from(g, Plus, Minus, Plus, One, Zero, on, t, next),
-        CellFold::Surf => ended_from(g, Plus, Minus, Plus, This, Zero, on, t, next),
-        CellFold::Greatest => ended_open(g, Greater, This, Low, on, t, next),
-        CellFold::Least => ended_open(g, Lesser, This, High, on, t, next),
+        CellFold::Ones => ended_from(g, Plus, Minus, once(Greater, One), low, One, on, t, next),
+        CellFold::Width => ended_from(g, Plus, Minus, once(Plus, One), low, Zero, on, t, next),
+        CellFold::Surf => ended_from(g, Plus, Minus, once(Plus, This), low, Zero, on, t, next),
+        CellFold::Greatest => ended_open(g, once(Greater, This), low, Low, on, t, next),
+        CellFold::Least => ended_open(g, once(Lesser, This), low, High, on, t, next),
     }
 }
 
@@ -669,7 +652,7 @@ fn anew<const N: usize>(
     }
 }
 
-/// Takes in a move of the shape `FoundTwice`. In machines that have such moves cells are counted.
+/// Takes in a move of the shape `FoundTwice`.
 #[inline(always)]
 fn found_twice<const N: usize>(
     f: CellFold,
@@ -687,36 +670,13 @@ fn found_twice<const N: usize>(
     match f {
         CellFold::Ones => found_twice_as(Greater, One, One, on, t, next),
         CellFold::Width => found_twice_as(Plus, One, Zero, on, t, next),
-        _ => false,
+        CellFold::Surf => found_twice_as(Plus, This, Zero, on, t, next),
+        CellFold::Greatest => found_twice_as(Greater, This, Low, on, t, next),
+        CellFold::Least => found_twice_as(Lesser, This, High, on, t, next),
     }
 }
 
-/// Takes in a move of the shape `EndedTwice`, with any operator for the ranges.
-#[inline(always)]
-fn ended_twice_from<const N: usize, P: Operator, W: Front, V: Front>(
-    g: RangeFold,
-    fold: P,
-    word: W,
-    start: V,
-    on: On,
-    t: &Between<'_, N>,
-    next: &mut [PackedHull<N>],
-) -> bool
-    requires covered { IsCovered N t.now }
-    requires next_packed { IsColumn N (count_in t.now.next_values) next.old }
-    ensures packed { IsColumn N (count_in t.now.next_values) next.new }
-    ensures taken { result ≡ true → MovesAs N t.now on
-        (ended_twice_fronts (Fold (range_op g)) (P.op fold) (W.formula word) (V.formula start)) next.old next.new }
-    ensures kept { result ≡ false → next.new ≡ next.old }
-{
-    match g {
-        RangeFold::Sum => ended_twice_as(Plus, fold, word, start, on, t, next),
-        RangeFold::Highest => ended_twice_as(Greater, fold, word, start, on, t, next),
-        RangeFold::Lowest => ended_twice_as(Lesser, fold, word, start, on, t, next),
-    }
-}
-
-/// Takes in a move of the shape `EndedTwice`. In machines that have such moves cells are counted.
+/// Takes in a move of the shape `EndedTwice`.
 #[inline(always)]
 fn ended_twice<const N: usize>(
     g: RangeFold,
@@ -728,14 +688,17 @@ fn ended_twice<const N: usize>(
     requires covered { IsCovered N t.now }
     requires next_packed { IsColumn N (count_in t.now.next_values) next.old }
     ensures packed { IsColumn N (count_in t.now.next_values) next.new }
-    ensures taken { result ≡ true → MovesAs N t.now on
-        (ended_twice_fronts (Fold (range_op g)) (Fold (cell_op f)) (cell_word f) (cell_start f)) next.old next.new }
+    ensures taken { result ≡ true → MovesAs N t.now on (ended_fronts (Fold (range_op g))
+        (found_twice_of (has_wide N) (Fold (cell_op f)) (cell_word f)) (cell_start f)) next.old next.new }
     ensures kept { result ≡ false → next.new ≡ next.old }
 {
+    let low = least_twice();
     match f {
-        CellFold::Ones => ended_twice_from(g, Greater, One, One, on, t, next),
-        CellFold::Width => ended_twice_from(g, Plus, One, Zero, on, t, next),
-        _ => false,
+        CellFold::Ones => ended_from(g, Plus, Minus, twice(Greater, One), low, One, on, t, next),
+        CellFold::Width => ended_from(g, Plus, Minus, twice(Plus, One), low, Zero, on, t, next),
+        CellFold::Surf => ended_from(g, Plus, Minus, twice(Plus, This), low, Zero, on, t, next),
+        CellFold::Greatest => ended_open(g, twice(Greater, This), low, Low, on, t, next),
+        CellFold::Least => ended_open(g, twice(Lesser, This), low, High, on, t, next),
     }
 }
 

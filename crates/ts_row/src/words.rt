@@ -4,7 +4,7 @@ ghost use Rattle.std.specs.Prelude.{◌≡◌, IfSome, true};
 ghost use Rattle.ts_automaton.specs.Body.{move_of};
 ghost use Rattle.ts_automaton.specs.Formula.{Join, Leaf, formula};
 ghost use Rattle.ts_automaton.specs.declared.expr.Operator.TheVariants.{Fold};
-ghost use Rattle.ts_row.specs.Plans.{words_formula};
+ghost use Rattle.ts_row.specs.Plans.{read, words_formula};
 
 use ts_automaton::{Atom, Expr, Op, Turn};
 
@@ -16,9 +16,9 @@ pub(crate) enum Words {
     Three(Op, Atom, Op, Atom, Atom),
 }
 
-/// The word that an expression is.
-pub(crate) fn word_of(e: &Expr) -> Option<Atom>
-    ensures { IfSome result (λ a. formula e.now ≡ Leaf a) }
+/// The word that an expression is. Between equal values the next cell is read as the cell.
+pub(crate) fn word_of(e: &Expr, equal: bool) -> Option<Atom>
+    ensures { IfSome result (λ a. read equal e.now ≡ Leaf a) }
 {
     match e {
         Expr::C => Some(Atom::C),
@@ -27,7 +27,7 @@ pub(crate) fn word_of(e: &Expr) -> Option<Atom>
         Expr::F => Some(Atom::F),
         Expr::R => Some(Atom::R),
         Expr::This => Some(Atom::This),
-        Expr::Next => Some(Atom::Next),
+        Expr::Next => Some(if equal { Atom::This } else { Atom::Next }),
         Expr::Zero => Some(Atom::Zero),
         Expr::Unit => Some(Atom::Unit),
         Expr::NegInf => Some(Atom::NegInf),
@@ -37,40 +37,41 @@ pub(crate) fn word_of(e: &Expr) -> Option<Atom>
 }
 
 /// The operator and the two words that an expression is. It is no difference.
-fn two_of(e: &Expr) -> Option<(Op, Atom, Atom)>
-    ensures { IfSome result (λ p. formula e.now ≡ Join (Fold p.0) (Leaf p.1) (Leaf p.2)) }
+fn two_of(e: &Expr, equal: bool) -> Option<(Op, Atom, Atom)>
+    ensures { IfSome result (λ p. read equal e.now ≡ Join (Fold p.0) (Leaf p.1) (Leaf p.2)) }
 {
     match e {
-        Expr::Add(a, b) => Some((Op::Add, word_of(a)?, word_of(b)?)),
-        Expr::Max(a, b) => Some((Op::Max, word_of(a)?, word_of(b)?)),
-        Expr::Min(a, b) => Some((Op::Min, word_of(a)?, word_of(b)?)),
+        Expr::Add(a, b) => Some((Op::Add, word_of(a, equal)?, word_of(b, equal)?)),
+        Expr::Max(a, b) => Some((Op::Max, word_of(a, equal)?, word_of(b, equal)?)),
+        Expr::Min(a, b) => Some((Op::Min, word_of(a, equal)?, word_of(b, equal)?)),
         _ => None,
     }
 }
 
 /// The words of an operator over a word and one or two more.
-fn joined_words(o: Op, a: &Expr, b: &Expr) -> Option<Words>
-    ensures { IfSome result (λ p. Join (Fold o) (formula a.now) (formula b.now) ≡ words_formula p) }
+fn joined_words(o: Op, a: &Expr, b: &Expr, equal: bool) -> Option<Words>
+    ensures { IfSome result (λ p. Join (Fold o) (read equal a.now) (read equal b.now)
+        ≡ words_formula p) }
 {
-    let first = word_of(a)?;
-    match word_of(b) {
+    let first = word_of(a, equal)?;
+    match word_of(b, equal) {
         Some(second) => Some(Words::Two(o, first, second)),
         None => {
-            let (p, second, third) = two_of(b)?;
+            let (p, second, third) = two_of(b, equal)?;
             Some(Words::Three(o, first, p, second, third))
         }
     }
 }
 
 /// The words of an expression that has few.
-pub(crate) fn words_of(e: &Expr) -> Option<Words>
-    ensures { IfSome result (λ p. formula e.now ≡ words_formula p) }
+pub(crate) fn words_of(e: &Expr, equal: bool) -> Option<Words>
+    ensures { IfSome result (λ p. read equal e.now ≡ words_formula p) }
 {
     match e {
-        Expr::Add(a, b) => joined_words(Op::Add, a, b),
-        Expr::Max(a, b) => joined_words(Op::Max, a, b),
-        Expr::Min(a, b) => joined_words(Op::Min, a, b),
-        _ => Some(Words::Word(word_of(e)?)),
+        Expr::Add(a, b) => joined_words(Op::Add, a, b, equal),
+        Expr::Max(a, b) => joined_words(Op::Max, a, b, equal),
+        Expr::Min(a, b) => joined_words(Op::Min, a, b, equal),
+        _ => Some(Words::Word(word_of(e, equal)?)),
     }
 }
 

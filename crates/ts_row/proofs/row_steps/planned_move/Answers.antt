@@ -1,9 +1,10 @@
-use Rattle.std.proofs.Common.{◌≡◌, true, sym, subst, ◌∙◌}
+use Rattle.std.proofs.Common.{◌≡◌, true, sym, ap, subst, ◌∙◌}
 use Rattle.ts_automaton.specs.Body.{move_of}
 use Rattle.ts_automaton.specs.Formula.{is_zero}
 use Rattle.ts_automaton.specs.Registers.{rests}
 use Rattle.ts_hull.specs.Cuts.{cut_of}
-use Rattle.ts_row.specs.Plans.{IsShapeOf}
+use Rattle.ts_row.specs.Plans.{IsShapeOf, is_equal}
+use Rattle.ts_sweep.specs.Here.{here_move}
 use Rattle.ts_row.proofs.PlanLaws.{same_shape}
 use Rattle.ts_sweep.specs.FrontLaws.{move_for}
 use Rattle.ts_sweep.specs.Sides.{has_wide, sides}
@@ -21,5 +22,6 @@ returns-clause-suits g c =
 
 pub returns-clause-shape : goal.returns-clause-shape
 returns-clause-shape g c =
-    subst (λ w. IsShapeOf w c.args.shape (cut_of (move_of c.turn.result.now))) c.requires.width
-    (same_shape c.args.a.now.wide c.args.shape _ _ (sym c.turn.ensures.value) c.requires.shape)
+    let equal = is_equal c.args.letter in
+    subst (λ w. IsShapeOf w c.args.shape (cut_of (here_move equal (move_of c.turn.result.now)))) c.requires.width
+    (same_shape c.args.a.now.wide c.args.shape _ _ (ap (here_move equal) (sym c.turn.ensures.value)) c.requires.shape)
