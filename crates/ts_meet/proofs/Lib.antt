@@ -3,6 +3,7 @@ pub mod Marks
 pub mod Pointed
 pub mod Meeting
 pub mod SeenGlue
+pub mod Watched
 pub mod Asking
 pub mod CallerLemmas
 pub mod Lanes

@@ -1,5 +1,5 @@
 -- How the two runs of a machine are glued, found once for a machine.
-use Rattle.std.specs.Prelude.{◌≡◌, ◌<◌, ℕ, zero, suc, ℤ, Bool, true, false, ◌||◌, List, [], get_or, length, if◌then◌else◌}
+use Rattle.std.specs.Prelude.{◌≡◌, ◌<◌, ℕ, zero, suc, nat_eq, ℤ, Bool, true, false, ◌||◌, List, [], get_or, length, if◌then◌else◌}
 use Rattle.ts_base.specs.declared.op.Op.{Op}
 use Rattle.ts_base.specs.declared.op.Op.TheVariants.{Add, Max, Min}
 use Rattle.ts_automaton.specs.Body.{node_at}
@@ -61,6 +61,10 @@ with_worth g d = record {
 -- two states of a pair are glued so, whatever the value of the cell: with what that is worth
 abbrev pub IsGluing : Pair → (q r : ℕ) → Gluing → Type 0
 IsGluing p q r g = (x : ℤ) → expression (with_worth g (worth p.table.unit x)) ≡ glue_of p q r x
+
+-- the operator that has a number
+abbrev pub numbered : ℕ → Op
+numbered k = if nat_eq k 0 then Add else if nat_eq k 1 then Max else Min
 
 -- the operator adds
 abbrev pub is_add : Op → Bool

@@ -1,4 +1,5 @@
 pub mod Sides
+pub mod Peaks
 pub mod SideLaws
 pub mod Joints
 pub mod Ends

@@ -20,6 +20,9 @@ use Rattle.ts_sweep.specs.Sides.{BothEnds, IsEndsOf}
 use Rattle.ts_sweep.specs.SidesLaws.{ends_of_pack, kept_packs}
 use Rattle.ts_sweep.specs.TreeLaws.{any_packs}
 use Rattle.ts_sweep.specs.Trees.{joined_by}
+use Rattle.ts_automaton.specs.Registers.{EachOf}
+use Rattle.ts_meet.specs.declared.gluing.Gluing.{Gluing}
+use Rattle.ts_meet.specs.Joints.{IsPlain, with_worth}
 use Rattle.ts_meet.specs.Sides.{plain_by, TakesPlain}
 
 pub cell_within : (x : ℤ) → IsCellValue x → IsWithin 1 x
@@ -51,3 +54,17 @@ clamped_packs Sub a b s t p q =
     let first = to_ends a s p in let second = to_ends b t q in
     subst (IsPackOf (joined_by Sub a b)) (sym (less_is_sum s t first.some second.some))
     (to_pack _ _ (any_packs Add BothEnds a (crossed b) s (negated_span t) first (crossed_packs b t second)))
+
+-- which numbers are added doesn't depend on what the cell is worth
+pub plain_with_worth : (g : Gluing) (d : ℤ) (a b : EachOf Ends) → IsPlain g a b → IsPlain (with_worth g d) a b
+plain_with_worth g d a b p = record {
+  results = p.results;
+  apart = p.apart;
+  away = p.away;
+  folded = λ e j. let f = p.folded e j in record {
+    left_d = f.left_d;
+    right_d = f.right_d;
+    left_c = f.left_c;
+    right_c = f.right_c;
+  };
+}

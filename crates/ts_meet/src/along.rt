@@ -1,25 +1,28 @@
 //! The hull of the spans of many values of a cell, pair of states by pair of states: how a pair is glued is found once,
 //! and then all values are glued in one loop.
 
-ghost use Rattle.std.specs.Prelude.{◌≡◌, ◌⊎◌, ℕ, ◌+◌, ◌<◌, ◌≤◌, ℤ, true, false, length};
+ghost use Rattle.std.specs.Prelude.{◌≡◌, ◌⊎◌, ℕ, ◌+◌, ◌<◌, ◌≤◌, ℤ, true, false, [], get_or, length};
 ghost use Rattle.ts_base.specs.declared.span.Span.{Span};
 ghost use Rattle.ts_base.specs.Limits.{IsCellValue};
 ghost use Rattle.ts_base.specs.Spans.{span_hull};
 ghost use Rattle.ts_glue.specs.Glue.{glue_of, is_join};
 ghost use Rattle.ts_glue.specs.Pairs.{Pair};
 ghost use Rattle.ts_meet.specs.Along.{AreCellValues, glued_along, hull_over, pair_along, with_along};
-ghost use Rattle.ts_meet.specs.Joints.{AreJoints, IsGluing, expression};
+ghost use Rattle.ts_meet.specs.Joints.{AreJoints, IsGluing, expression, numbered};
 ghost use Rattle.ts_meet.specs.Meets.{glued_seen};
+ghost use Rattle.ts_meet.specs.Peaks.{AreTaken, AreWatched, IsTaken, no_peaks};
 ghost use Rattle.ts_meet.specs.Settled.{ArePlaces, HavePlaces, with_hull};
 ghost use Rattle.ts_meet.specs.Sides.{StandFor};
 ghost use Rattle.ts_row.specs.Rows.{lanes_of};
 ghost use Rattle.ts_sweep.specs.Packed.{IsPacked};
 ghost use Rattle.ts_sweep.specs.Sides.{BothEnds, lane_count, sides};
 
+use crate::fold::{GREATEST, LEAST, SUM, numbered};
 use crate::gluing::Gluing;
-use crate::joints::Joints;
+use crate::joints::{Joints, STATES};
 use crate::marked::{hull_of_both, joined, marked, nothing, span_of};
-use crate::seam::{Apart, Between, Both, Seam};
+use crate::peaks::{Peaks, peaks_of};
+use crate::seam::{Any, Apart, Between, Both, PlainApart, Seam};
 use ts_automaton::Op;
 use ts_base::Span;
 use ts_row::RowView;
@@ -45,16 +48,16 @@ pub fn glued_along<const N: usize>(
         result ≡ glued_along N p left.now right.now from values.now cells }
 {
     match joints.result {
-        Op::Add => along_by(Op::Add, joints, left, right, values, from, cells),
-        Op::Max => along_by(Op::Max, joints, left, right, values, from, cells),
-        Op::Min => along_by(Op::Min, joints, left, right, values, from, cells),
+        Op::Add => along_by::<SUM, N>(joints, left, right, values, from, cells),
+        Op::Max => along_by::<GREATEST, N>(joints, left, right, values, from, cells),
+        Op::Min => along_by::<LEAST, N>(joints, left, right, values, from, cells),
     }
 }
 
-/// The hull of the glued spans of all pairs of states at these places, where `operator` is the one that joins results.
+/// The hull of the glued spans of all pairs of states at these places. `O` is the number of the operator that joins
+/// results.
 #[inline(always)]
-fn along_by<const N: usize>(
-    operator: Op,
+fn along_by<const O: u8, const N: usize>(
     joints: &Joints,
     left: &RowView<'_, N>,
     right: &RowView<'_, N>,
@@ -65,22 +68,29 @@ fn along_by<const N: usize>(
     requires registers { 6 ≤ lane_count N }
     requires lanes { N ≤ 64 }
     requires alone { (sides N ≡ BothEnds) ⊎ (joints.now.wide ≡ false) }
-    requires operator { operator ≡ joints.now.result }
+    requires operator { numbered O ≡ joints.now.result }
     requires left { HavePlaces N joints.now.left_states (from + length values.now) left.now }
     requires right { HavePlaces N joints.now.right_states (from + length values.now) right.now }
     requires values { AreCellValues values.now }
     ensures { (p : Pair) → AreJoints p joints.now →
         result ≡ glued_along N p left.now right.now from values.now cells }
 {
+    let seconds = peaks_of(
+        joints.adds(),
+        joints.right_states,
+        right,
+        from,
+        values.len(),
+    );
     let mut hull = nothing();
     for q in 0..joints.left_states {
-        hull = with_columns(
+        hull = with_columns::<O, N>(
             hull,
-            operator,
             joints,
             q,
             left.column(q),
             right,
+            &seconds,
             values,
             from,
             cells,
@@ -91,13 +101,13 @@ fn along_by<const N: usize>(
 
 /// A hull with the glued spans of one state on the left added.
 #[inline(always)]
-fn with_columns<const N: usize>(
+fn with_columns<const O: u8, const N: usize>(
     hull: Ends,
-    operator: Op,
     joints: &Joints,
     q: u8,
     left: &[PackedHull<N>],
     right: &RowView<'_, N>,
+    seconds: &[Peaks; STATES],
     values: &[i64],
     from: usize,
     cells: u32,
@@ -105,23 +115,28 @@ fn with_columns<const N: usize>(
     requires registers { 6 ≤ lane_count N }
     requires lanes { N ≤ 64 }
     requires alone { (sides N ≡ BothEnds) ⊎ (joints.now.wide ≡ false) }
-    requires operator { operator ≡ joints.now.result }
+    requires operator { numbered O ≡ joints.now.result }
     requires state { q < joints.now.left_states }
     requires left { ArePlaces N (from + length values.now) left.now }
     requires right { HavePlaces N joints.now.right_states (from + length values.now) right.now }
+    requires seconds { (r : ℕ) → r < joints.now.right_states →
+        AreWatched N joints.now (get_or seconds.now r no_peaks) (get_or right.now r []) from (length values.now) }
     requires values { AreCellValues values.now }
     ensures { (p : Pair) (so_far : ℕ → Span) → AreJoints p joints.now →
         StandFor hull (hull_over so_far (length values.now)) → StandFor result (hull_over
         (with_along N p q left.now right.now from values.now cells (length p.reverse.states) so_far)
         (length values.now)) }
 {
+    let first = Peaks::of(joints.adds(), left, from, values.len());
     let mut all = hull;
     for r in 0..joints.right_states {
-        let pair = along_pair(
-            operator,
+        let second = seconds[r as usize];
+        let pair = along_pair::<O, N>(
             joints,
             q,
             r,
+            first,
+            second,
             left,
             right.column(r),
             values,
@@ -135,11 +150,12 @@ fn with_columns<const N: usize>(
 
 /// The hull of the glued spans of one pair of states at the places from `from` on where these values are.
 #[inline(always)]
-fn along_pair<const N: usize>(
-    operator: Op,
+fn along_pair<const O: u8, const N: usize>(
     joints: &Joints,
     q: u8,
     r: u8,
+    first: Peaks,
+    second: Peaks,
     left: &[PackedHull<N>],
     right: &[PackedHull<N>],
     values: &[i64],
@@ -149,30 +165,31 @@ fn along_pair<const N: usize>(
     requires registers { 6 ≤ lane_count N }
     requires lanes { N ≤ 64 }
     requires alone { (sides N ≡ BothEnds) ⊎ (joints.now.wide ≡ false) }
-    requires operator { operator ≡ joints.now.result }
+    requires operator { numbered O ≡ joints.now.result }
     requires state { q < joints.now.left_states }
     requires other { r < joints.now.right_states }
     requires left { ArePlaces N (from + length values.now) left.now }
     requires right { ArePlaces N (from + length values.now) right.now }
+    requires first { AreWatched N joints.now first left.now from (length values.now) }
+    requires second { AreWatched N joints.now second right.now from (length values.now) }
     requires values { AreCellValues values.now }
     ensures { (p : Pair) → AreJoints p joints.now → StandFor result
         (pair_along N p q r left.now right.now from values.now cells (length values.now)) }
 {
     if joints.are_joined(q, r) {
-        along_joined(operator, joints, q, r, left, right, values, from, cells)
-    } else if joints.wide {
-        along_apart(operator, joints, true, left, right, values, from, cells)
+        along_joined::<O, N>(
+            joints, q, r, first, second, left, right, values, from, cells,
+        )
     } else {
-        along_apart(operator, joints, false, left, right, values, from, cells)
+        along_apart::<O, N>(joints, first, second, left, right, values, from, cells)
     }
 }
 
-/// The hull where no occurrence goes on from one state to the other. `wide` is whether the automata are.
-#[inline(always)]
-fn along_apart<const N: usize>(
-    operator: Op,
+/// The hull where no occurrence goes on from one state to the other.
+fn along_apart<const O: u8, const N: usize>(
     joints: &Joints,
-    wide: bool,
+    first: Peaks,
+    second: Peaks,
     left: &[PackedHull<N>],
     right: &[PackedHull<N>],
     values: &[i64],
@@ -181,25 +198,38 @@ fn along_apart<const N: usize>(
 ) -> Ends
     requires registers { 6 ≤ lane_count N }
     requires alone { (sides N ≡ BothEnds) ⊎ (joints.now.wide ≡ false) }
-    requires operator { operator ≡ joints.now.result }
-    requires wide { wide ≡ joints.now.wide }
+    requires operator { numbered O ≡ joints.now.result }
     requires left { ArePlaces N (from + length values.now) left.now }
     requires right { ArePlaces N (from + length values.now) right.now }
+    requires first { AreWatched N joints.now first left.now from (length values.now) }
+    requires second { AreWatched N joints.now second right.now from (length values.now) }
     requires values { AreCellValues values.now }
     ensures { (p : Pair) (q r : ℕ) → AreJoints p joints.now → is_join p.table q r ≡ false → StandFor result
         (pair_along N p q r left.now right.now from values.now cells (length values.now)) }
 {
-    let gluing = Gluing::apart(operator, wide);
-    along_glued(Apart, joints, gluing, left, right, values, from, cells)
+    if joints.wide {
+        let gluing = Gluing::apart(numbered(O), true);
+        let seam = Apart::<O, true>;
+        return along_glued(seam, joints, gluing, left, right, values, from, cells);
+    }
+    let gluing = Gluing::apart(numbered(O), false);
+    if gluing.is_plain_within(first, second) {
+        let seam = PlainApart::<O>;
+        along_glued(seam, joints, gluing, left, right, values, from, cells)
+    } else {
+        let seam = Apart::<O, false>;
+        along_glued(seam, joints, gluing, left, right, values, from, cells)
+    }
 }
 
 /// The hull where one occurrence goes on from the state `q` on the left to `r` on the right.
 #[inline(always)]
-fn along_joined<const N: usize>(
-    operator: Op,
+fn along_joined<const O: u8, const N: usize>(
     joints: &Joints,
     q: u8,
     r: u8,
+    first: Peaks,
+    second: Peaks,
     left: &[PackedHull<N>],
     right: &[PackedHull<N>],
     values: &[i64],
@@ -208,63 +238,43 @@ fn along_joined<const N: usize>(
 ) -> Ends
     requires registers { 6 ≤ lane_count N }
     requires alone { (sides N ≡ BothEnds) ⊎ (joints.now.wide ≡ false) }
-    requires operator { operator ≡ joints.now.result }
+    requires operator { numbered O ≡ joints.now.result }
     requires state { q < joints.now.left_states }
     requires other { r < joints.now.right_states }
     requires left { ArePlaces N (from + length values.now) left.now }
     requires right { ArePlaces N (from + length values.now) right.now }
+    requires first { AreWatched N joints.now first left.now from (length values.now) }
+    requires second { AreWatched N joints.now second right.now from (length values.now) }
     requires values { AreCellValues values.now }
     ensures { (p : Pair) → AreJoints p joints.now → is_join p.table q r ≡ true → StandFor result
         (pair_along N p q r left.now right.now from values.now cells (length values.now)) }
 {
+    if joints.wide {
+        let gluing = joints.joined(numbered(O), joints.fold, q, r);
+        return along_glued(Any, joints, gluing, left, right, values, from, cells);
+    }
     match joints.fold {
-        Op::Add => along_folded(
-            operator,
-            Op::Add,
-            joints,
-            q,
-            r,
-            left,
-            right,
-            values,
-            from,
-            cells,
+        Op::Add => along_folded::<O, SUM, N>(
+            joints, q, r, first, second, left, right, values, from, cells,
         ),
-        Op::Max => along_folded(
-            operator,
-            Op::Max,
-            joints,
-            q,
-            r,
-            left,
-            right,
-            values,
-            from,
-            cells,
+        Op::Max => along_folded::<O, GREATEST, N>(
+            joints, q, r, first, second, left, right, values, from, cells,
         ),
-        Op::Min => along_folded(
-            operator,
-            Op::Min,
-            joints,
-            q,
-            r,
-            left,
-            right,
-            values,
-            from,
-            cells,
+        Op::Min => along_folded::<O, LEAST, N>(
+            joints, q, r, first, second, left, right, values, from, cells,
         ),
     }
 }
 
-/// The hull where one occurrence goes on from one state to the other. `fold` is the operator that folds it.
+/// The hull where one occurrence goes on from one state to the other. `F` is the number of the operator that
+/// folds it.
 #[inline(always)]
-fn along_folded<const N: usize>(
-    operator: Op,
-    fold: Op,
+fn along_folded<const O: u8, const F: u8, const N: usize>(
     joints: &Joints,
     q: u8,
     r: u8,
+    first: Peaks,
+    second: Peaks,
     left: &[PackedHull<N>],
     right: &[PackedHull<N>],
     values: &[i64],
@@ -273,26 +283,35 @@ fn along_folded<const N: usize>(
 ) -> Ends
     requires registers { 6 ≤ lane_count N }
     requires alone { (sides N ≡ BothEnds) ⊎ (joints.now.wide ≡ false) }
-    requires operator { operator ≡ joints.now.result }
-    requires fold { fold ≡ joints.now.fold }
+    requires operator { numbered O ≡ joints.now.result }
+    requires fold { numbered F ≡ joints.now.fold }
+    requires narrow { joints.now.wide ≡ false }
     requires state { q < joints.now.left_states }
     requires other { r < joints.now.right_states }
     requires left { ArePlaces N (from + length values.now) left.now }
     requires right { ArePlaces N (from + length values.now) right.now }
+    requires first { AreWatched N joints.now first left.now from (length values.now) }
+    requires second { AreWatched N joints.now second right.now from (length values.now) }
     requires values { AreCellValues values.now }
     ensures { (p : Pair) → AreJoints p joints.now → is_join p.table q r ≡ true → StandFor result
         (pair_along N p q r left.now right.now from values.now cells (length values.now)) }
 {
-    let gluing = joints.joined(operator, fold, q, r);
+    let gluing = joints.joined(numbered(O), numbered(F), q, r);
+    if !gluing.is_plain_within(first, second) {
+        return along_glued(Any, joints, gluing, left, right, values, from, cells);
+    }
     if joints.trims {
-        along_glued(Between, joints, gluing, left, right, values, from, cells)
+        let seam = Between::<O, F>;
+        along_glued(seam, joints, gluing, left, right, values, from, cells)
     } else {
-        along_glued(Both, joints, gluing, left, right, values, from, cells)
+        let seam = Both::<O, F>;
+        along_glued(seam, joints, gluing, left, right, values, from, cells)
     }
 }
 
-/// The hull of the glued spans of two states that are glued so, but for what the cell is worth.
-#[inline(always)]
+/// The hull of the glued spans of two states that are glued so, but for what the cell is worth. It is a call
+/// for each way, so that all that is constant in its loop is known there.
+#[inline(never)]
 fn along_glued<S: Seam<N>, const N: usize>(
     seam: S,
     joints: &Joints,
@@ -309,6 +328,7 @@ fn along_glued<S: Seam<N>, const N: usize>(
     requires left { ArePlaces N (from + length values.now) left.now }
     requires right { ArePlaces N (from + length values.now) right.now }
     requires values { AreCellValues values.now }
+    requires takes { AreTaken N (S.takes gluing) left.now right.now from (length values.now) }
     ensures { (p : Pair) (q r : ℕ) → AreJoints p joints.now → IsGluing p q r gluing → StandFor result
         (pair_along N p q r left.now right.now from values.now cells (length values.now)) }
 {
@@ -346,6 +366,7 @@ fn with_value<S: Seam<N>, const N: usize>(
     requires left { IsPacked (lane_count N) (lanes_of N left.now) }
     requires right { IsPacked (lane_count N) (lanes_of N right.now) }
     requires value { IsCellValue value }
+    requires takes { IsTaken N (S.takes gluing) left.now right.now }
     ensures { (p : Pair) (q r : ℕ) (s : Span) → AreJoints p joints.now → IsGluing p q r gluing → StandFor hull s →
         StandFor result (span_hull s
         (glued_seen (sides N) p (with_hull N q left.now) (with_hull N r right.now) value cells)) }
@@ -379,6 +400,7 @@ fn with_glued<S: Seam<N>, const N: usize>(
     requires left { IsPacked (lane_count N) (lanes_of N left.now) }
     requires right { IsPacked (lane_count N) (lanes_of N right.now) }
     requires worth { IsCellValue gluing.worth }
+    requires takes { IsTaken N (S.takes gluing) left.now right.now }
     ensures { (p : Pair) (q r : ℕ) (x : ℤ) (s : Span) → AreJoints p joints.now →
         expression gluing ≡ glue_of p q r x → StandFor hull s → StandFor result (span_hull s
         (glued_seen (sides N) p (with_hull N q left.now) (with_hull N r right.now) x cells)) }

@@ -1,15 +1,15 @@
 //! How the runs of a machine are glued, worked out once for a machine.
 
-ghost use Rattle.std.specs.Prelude.{◌≡◌, ℕ, ◌<◌, ℤ, true, false, [], IfSome, IsSome, get_or, length};
+ghost use Rattle.std.specs.Prelude.{◌≡◌, ℕ, ◌<◌, ℤ, ◌||◌, true, false, [], IfSome, IsSome, get_or, length};
 ghost use Rattle.ts_automaton.specs.Body.{node_at};
 ghost use Rattle.ts_automaton.specs.Formula.{formula};
 ghost use Rattle.ts_base.specs.Limits.{IsCellValue};
 ghost use Rattle.ts_glue.specs.Glue.{first_op, fold_op, glue_of, is_join, is_pair};
 ghost use Rattle.ts_glue.specs.Machines.{pair_of};
 ghost use Rattle.ts_glue.specs.Pairs.{Pair, pair, table_view};
-ghost use Rattle.ts_meet.specs.Joints.{AreJoints, AreJoinsOf, IsGluing, expression};
+ghost use Rattle.ts_meet.specs.Joints.{AreJoints, AreJoinsOf, IsGluing, expression, is_add};
 
-use crate::gluing::Gluing;
+use crate::gluing::{Gluing, is_add};
 use crate::joints::{Joints, STATES};
 use crate::spot::Spot;
 use ts_automaton::{Automaton, Expr, Op};
@@ -84,6 +84,7 @@ impl Joints {
         ensures value { (p : Pair) → AreJoints p self.now → is_join p.table left right ≡ true →
             IsGluing p left right result }
         ensures wide { result.wide ≡ self.now.wide }
+        ensures operators { (result.result ≡ operator) × (result.fold ≡ fold) }
         ensures joins { result.joins ≡ true }
         ensures trims { result.trims ≡ self.now.trims }
     {
@@ -97,6 +98,14 @@ impl Joints {
             held_left: self.held_left[left as usize],
             held_right: self.held_right[right as usize],
         }
+    }
+
+    /// Whether anything is added where registers are glued.
+    #[inline(always)]
+    pub(crate) fn adds(&self) -> bool
+        ensures { result ≡ (is_add self.now.result || is_add self.now.fold) }
+    {
+        is_add(self.result) || is_add(self.fold)
     }
 
     /// Whether one occurrence goes on from a state to another.

@@ -1,7 +1,7 @@
 //! What is made of the registers on both sides of a cell.
 
-ghost use Rattle.std.specs.Prelude.{◌≡◌, ◌⊎◌, ◌≤◌, true, false, neg_ℤ, pos};
-ghost use Rattle.ts_automaton.specs.Registers.{Takes, spans_of, value_in};
+ghost use Rattle.std.specs.Prelude.{◌≡◌, ◌⊎◌, ◌≤◌, ◌||◌, true, false, neg_ℤ, pos};
+ghost use Rattle.ts_automaton.specs.Registers.{EachOf, Takes, spans_of, value_in};
 ghost use Rattle.ts_base.specs.declared.ext.Ext.TheVariants.{Int};
 ghost use Rattle.ts_base.specs.Limits.{IsCellValue};
 ghost use Rattle.ts_glue.specs.Glue.{GlueTakes, apart, fold_of, folded_between, folded_both, glue_in, held_of, result_of};
@@ -19,12 +19,15 @@ ghost use Rattle.ts_meet.specs.Joints.{
   told_joined,
   with_worth,
 };
-ghost use Rattle.ts_meet.specs.Sides.{TakesPlain, ends_in, plain_values, pointed_spans};
+ghost use Rattle.ts_meet.specs.Peaks.{IsUnder};
+ghost use Rattle.ts_meet.specs.Sides.{TakesPlain, ends_in, plain_values, pointed_spans, side_of};
+ghost use Rattle.ts_sweep.specs.declared.packed.Ends.{Ends};
 ghost use Rattle.ts_row.specs.Rows.{lanes_of};
 ghost use Rattle.ts_sweep.specs.Fronts.{ArePlain};
 ghost use Rattle.ts_sweep.specs.Packed.{AreSome, IsPackOf, unpacked};
 ghost use Rattle.ts_sweep.specs.Sides.{BothEnds, lane_count, seen, sides};
 
+use crate::peaks::Peaks;
 use crate::side::{Side, are_plain, shown};
 use crate::sums::{Clamped, Plain, Sums};
 use ts_automaton::{Op, Operator};
@@ -64,10 +67,30 @@ impl Gluing {
         }
     }
 
+    /// The same, by operators and a width that are those of it: where these are constants, so are its parts.
+    #[inline(always)]
+    pub(crate) fn known(self, operator: Op, fold: Op, wide: bool) -> Gluing
+        requires operator { operator ≡ self.result }
+        requires fold { fold ≡ self.fold }
+        requires wide { wide ≡ self.wide }
+        ensures { result ≡ self }
+    {
+        Gluing {
+            result: operator,
+            fold,
+            worth: self.worth,
+            wide,
+            joins: self.joins,
+            trims: self.trims,
+            held_left: self.held_left,
+            held_right: self.held_right,
+        }
+    }
+
     /// How the registers are glued where no occurrence goes on.
     #[inline(always)]
     pub(crate) fn apart(operator: Op, wide: bool) -> Gluing
-        ensures parts { (result.wide ≡ wide) × (result.result ≡ operator) }
+        ensures parts { (result.wide ≡ wide) × (result.result ≡ operator) × (result.fold ≡ operator) }
         ensures apart { result.joins ≡ false }
         ensures worth { IsCellValue result.worth }
     {
@@ -137,6 +160,46 @@ impl Gluing {
         shown::<N>(self.pointed_apart(left, right))
     }
 
+    /// The glued ends of two hulls before the mark, where no occurrence goes on and all numbers that are added are
+    /// small.
+    #[inline(always)]
+    pub(crate) fn glued_plainly<const N: usize>(
+        self,
+        left: &PackedHull<N>,
+        right: &PackedHull<N>,
+    ) -> Ends
+        requires registers { 6 ≤ lane_count N }
+        requires alone { (sides N ≡ BothEnds) ⊎ (self.wide ≡ false) }
+        requires left { AreSome (lane_count N) (lanes_of N left.now) }
+        requires right { AreSome (lane_count N) (lanes_of N right.now) }
+        requires worth { IsCellValue self.worth }
+        requires apart { self.joins ≡ false }
+        requires plain { IsPlain self
+            (side_of (sides N) (lanes_of N left.now)) (side_of (sides N) (lanes_of N right.now)) }
+        ensures { IsPackOf result (seen (sides N) (glue_in sealed_spans
+            (spans_of (unpacked (lanes_of N left.now))) (spans_of (unpacked (lanes_of N right.now)))
+            (expression self))) }
+    {
+        shown::<N>(self.plain_apart(left, right))
+    }
+
+    /// The glued ends of two hulls before the mark, where no occurrence goes on, with the sums of the lanes.
+    #[inline(always)]
+    fn plain_apart<const N: usize>(self, left: &PackedHull<N>, right: &PackedHull<N>) -> Ends
+        requires registers { 6 ≤ lane_count N }
+        requires left { AreSome (lane_count N) (lanes_of N left.now) }
+        requires right { AreSome (lane_count N) (lanes_of N right.now) }
+        requires worth { IsCellValue self.worth }
+        requires apart { self.joins ≡ false }
+        requires plain { IsPlain self
+            (side_of (sides N) (lanes_of N left.now)) (side_of (sides N) (lanes_of N right.now)) }
+        ensures { IsPackOf result (glue_in sealed_spans
+            (pointed_spans (sides N) (spans_of (unpacked (lanes_of N left.now))))
+            (pointed_spans (sides N) (spans_of (unpacked (lanes_of N right.now)))) (apart self.wide self.result)) }
+    {
+        self.answers::<Plain>(Side::of(left), Side::of(right))
+    }
+
     /// The glued ends of two hulls before the mark, where one occurrence goes on that leaves a cell out at its end.
     #[inline(always)]
     pub(crate) fn glued_between<const N: usize>(
@@ -151,6 +214,9 @@ impl Gluing {
         requires worth { IsCellValue self.worth }
         requires joined { self.joins ≡ true }
         requires trims { self.trims ≡ true }
+        requires narrow { self.wide ≡ false }
+        requires plain { IsPlain self
+            (side_of (sides N) (lanes_of N left.now)) (side_of (sides N) (lanes_of N right.now)) }
         ensures { IsPackOf result (seen (sides N) (glue_in sealed_spans
             (spans_of (unpacked (lanes_of N left.now))) (spans_of (unpacked (lanes_of N right.now)))
             (expression self))) }
@@ -172,6 +238,9 @@ impl Gluing {
         requires worth { IsCellValue self.worth }
         requires joined { self.joins ≡ true }
         requires trims { self.trims ≡ false }
+        requires narrow { self.wide ≡ false }
+        requires plain { IsPlain self
+            (side_of (sides N) (lanes_of N left.now)) (side_of (sides N) (lanes_of N right.now)) }
         ensures { IsPackOf result (seen (sides N) (glue_in sealed_spans
             (spans_of (unpacked (lanes_of N left.now))) (spans_of (unpacked (lanes_of N right.now)))
             (expression self))) }
@@ -179,8 +248,8 @@ impl Gluing {
         shown::<N>(self.joined_both(left, right))
     }
 
-    /// The glued ends of two hulls before the mark, where the cell lies between both sides of an occurrence: in place
-    /// if all numbers that are added are small, by a call otherwise.
+    /// The glued ends of two hulls before the mark, where the cell lies between both sides of an occurrence and
+    /// all numbers that are added are small.
     #[inline(always)]
     fn joined_between<const N: usize>(self, left: &PackedHull<N>, right: &PackedHull<N>) -> Ends
         requires registers { 6 ≤ lane_count N }
@@ -189,30 +258,18 @@ impl Gluing {
         requires worth { IsCellValue self.worth }
         requires joined { self.joins ≡ true }
         requires trims { self.trims ≡ true }
+        requires narrow { self.wide ≡ false }
+        requires plain { IsPlain self
+            (side_of (sides N) (lanes_of N left.now)) (side_of (sides N) (lanes_of N right.now)) }
         ensures { IsPackOf result (glue_in sealed_spans
             (pointed_spans (sides N) (spans_of (unpacked (lanes_of N left.now))))
             (pointed_spans (sides N) (spans_of (unpacked (lanes_of N right.now)))) (joined_expression self)) }
     {
-        let (first, second) = (Side::of(left), Side::of(right));
-        if self.is_joined_plain(first, second) {
-            self.narrow_between(first, second)
-        } else {
-            joined_pair(
-                self.result,
-                self.fold,
-                self.worth,
-                self.wide,
-                self.trims,
-                self.held_left,
-                self.held_right,
-                left,
-                right,
-            )
-        }
+        self.narrow_between(Side::of(left), Side::of(right))
     }
 
-    /// The glued ends of two hulls before the mark, where both sides of an occurrence have the cell: in place if all
-    /// numbers that are added are small, by a call otherwise.
+    /// The glued ends of two hulls before the mark, where both sides of an occurrence have the cell and all
+    /// numbers that are added are small.
     #[inline(always)]
     fn joined_both<const N: usize>(self, left: &PackedHull<N>, right: &PackedHull<N>) -> Ends
         requires registers { 6 ≤ lane_count N }
@@ -221,26 +278,14 @@ impl Gluing {
         requires worth { IsCellValue self.worth }
         requires joined { self.joins ≡ true }
         requires trims { self.trims ≡ false }
+        requires narrow { self.wide ≡ false }
+        requires plain { IsPlain self
+            (side_of (sides N) (lanes_of N left.now)) (side_of (sides N) (lanes_of N right.now)) }
         ensures { IsPackOf result (glue_in sealed_spans
             (pointed_spans (sides N) (spans_of (unpacked (lanes_of N left.now))))
             (pointed_spans (sides N) (spans_of (unpacked (lanes_of N right.now)))) (joined_expression self)) }
     {
-        let (first, second) = (Side::of(left), Side::of(right));
-        if self.is_joined_plain(first, second) {
-            self.narrow_both(first, second)
-        } else {
-            joined_pair(
-                self.result,
-                self.fold,
-                self.worth,
-                self.wide,
-                self.trims,
-                self.held_left,
-                self.held_right,
-                left,
-                right,
-            )
-        }
+        self.narrow_both(Side::of(left), Side::of(right))
     }
 
     /// The glued ends before the mark of narrow automata with the sums of the lanes, where the cell lies between both
@@ -495,6 +540,19 @@ impl Gluing {
         ensures { result ≡ S.values.constant (Int (neg_ℤ self.worth)) }
     {
         S::number(opposite(self.worth))
+    }
+
+    /// Whether all numbers that are added are small between hulls of narrow automata whose ends lie within these.
+    pub(crate) fn is_plain_within(self, left: Peaks, right: Peaks) -> bool
+        requires narrow { self.wide ≡ false }
+        ensures { (a b : EachOf Ends) → result ≡ true →
+            ((is_add self.result || is_add self.fold) ≡ true → IsUnder left a × IsUnder right b) → IsPlain self a b }
+    {
+        if self.joins {
+            self.is_joined_plain(left.side(), right.side())
+        } else {
+            self.is_apart_plain(left.side(), right.side())
+        }
     }
 
     /// Whether all numbers that are added or taken away are small, where no occurrence goes on.

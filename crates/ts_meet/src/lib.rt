@@ -17,6 +17,7 @@
 mod along;
 mod asked;
 mod finished;
+mod fold;
 mod found;
 mod gluing;
 mod joints;
@@ -24,6 +25,7 @@ mod lane;
 mod marked;
 mod meets;
 mod needed;
+mod peaks;
 mod seam;
 mod settled;
 mod side;

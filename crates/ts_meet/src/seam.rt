@@ -1,24 +1,30 @@
 //! How the hulls of two states are glued, as a type: what doesn't change from value to value is then a constant of the
 //! loop over values.
 
+use crate::fold::numbered;
 use crate::gluing::Gluing;
 use ts_sweep::packed::{Ends, PackedHull};
 
 /// A way to glue two hulls of N lanes.
 pub(crate) trait Seam<const N: usize>: Copy {
     ghost use Rattle.std.specs.Prelude.{◌≡◌, ◌⊎◌, ◌≤◌, ℤ, false};
-    ghost use Rattle.ts_automaton.specs.Registers.{spans_of};
+    ghost use Rattle.ts_automaton.specs.Registers.{EachOf, spans_of};
     ghost use Rattle.ts_base.specs.Limits.{IsCellValue};
     ghost use Rattle.ts_glue.specs.Glue.{glue_in};
     ghost use Rattle.ts_hull.specs.Sealed.{sealed_spans};
     ghost use Rattle.ts_meet.specs.declared.gluing.Gluing.{Gluing};
     ghost use Rattle.ts_meet.specs.Joints.{expression, with_worth};
+    ghost use Rattle.ts_meet.specs.Sides.{side_of};
     ghost use Rattle.ts_row.specs.Rows.{lanes_of};
+    ghost use Rattle.ts_sweep.specs.declared.packed.Ends.{Ends};
     ghost use Rattle.ts_sweep.specs.Packed.{AreSome, IsPackOf, unpacked};
     ghost use Rattle.ts_sweep.specs.Sides.{BothEnds, lane_count, seen, sides};
 
     /// That it serves states that are glued so.
     ghost fits: { Gluing → Type 0 };
+
+    /// That it serves registers that lie so on both sides.
+    ghost takes: { Gluing → EachOf Ends → EachOf Ends → Type 0 };
 
     /// The glued ends before the mark. An end that the hulls haven't is infinite.
     fn glued(self, gluing: Gluing, left: &PackedHull<N>, right: &PackedHull<N>) -> Ends
@@ -28,60 +34,131 @@ pub(crate) trait Seam<const N: usize>: Copy {
         requires left { AreSome (lane_count N) (lanes_of N left.now) }
         requires right { AreSome (lane_count N) (lanes_of N right.now) }
         requires worth { IsCellValue gluing.worth }
+        requires takes { takes gluing (side_of (sides N) (lanes_of N left.now))
+            (side_of (sides N) (lanes_of N right.now)) }
         ensures { IsPackOf result (seen (sides N) (glue_in sealed_spans
             (spans_of (unpacked (lanes_of N left.now))) (spans_of (unpacked (lanes_of N right.now)))
             (expression gluing))) };
 
     ghost any_worth: { (g : Gluing) (d : ℤ) → fits g → fits (with_worth g d) };
+
+    ghost takes_any: { (g : Gluing) (d : ℤ) (a b : EachOf Ends) → takes g a b → takes (with_worth g d) a b };
 }
 
-/// No occurrence goes on.
+/// No occurrence goes on. `O` is the number of the operator that joins results, `WIDE` is whether the automata are.
 #[derive(Clone, Copy)]
-pub(crate) struct Apart;
+pub(crate) struct Apart<const O: u8, const WIDE: bool>;
 
-/// One occurrence goes on, and leaves a cell out at its end: the cell lies between both sides.
+/// No occurrence of narrow automata goes on, and all numbers that are added are small.
 #[derive(Clone, Copy)]
-pub(crate) struct Between;
+pub(crate) struct PlainApart<const O: u8>;
 
-/// One occurrence goes on, and keeps its last cell: both sides have it.
+/// One occurrence of narrow automata goes on, and leaves a cell out at its end: the cell lies between both sides. All
+/// numbers that are added are small.
 #[derive(Clone, Copy)]
-pub(crate) struct Both;
+pub(crate) struct Between<const O: u8, const F: u8>;
 
-impl<const N: usize> Seam<N> for Apart {
+/// One occurrence of narrow automata goes on, and keeps its last cell: both sides have it. All numbers that are added
+/// are small.
+#[derive(Clone, Copy)]
+pub(crate) struct Both<const O: u8, const F: u8>;
+
+/// Any way, which is found anew for each value.
+#[derive(Clone, Copy)]
+pub(crate) struct Any;
+
+impl<const O: u8, const WIDE: bool, const N: usize> Seam<N> for Apart<O, WIDE> {
     ghost use Rattle.std.specs.Prelude.{◌≡◌, false};
+    ghost use Rattle.ts_meet.specs.Joints.{numbered};
 
-    ghost fits = { λ g. g.joins ≡ false };
+    ghost fits = { λ g. (g.joins ≡ false) × (g.result ≡ numbered O) × (g.wide ≡ WIDE) };
 
-    ghost any_worth = { λ g d h. h };
-
-    #[inline(always)]
-    fn glued(self, gluing: Gluing, left: &PackedHull<N>, right: &PackedHull<N>) -> Ends {
-        gluing.glued_apart(left, right)
-    }
-}
-
-impl<const N: usize> Seam<N> for Between {
-    ghost use Rattle.std.specs.Prelude.{◌≡◌, true};
-
-    ghost fits = { λ g. (g.joins ≡ true) × (g.trims ≡ true) };
+    ghost takes = { λ g a b. Unit {0} };
 
     ghost any_worth = { λ g d h. h };
 
+    ghost takes_any = { λ g d a b h. h };
+
     #[inline(always)]
     fn glued(self, gluing: Gluing, left: &PackedHull<N>, right: &PackedHull<N>) -> Ends {
-        gluing.glued_between(left, right)
+        let known = gluing.known(numbered(O), gluing.fold, WIDE);
+        known.glued_apart(left, right)
     }
 }
 
-impl<const N: usize> Seam<N> for Both {
+impl<const O: u8, const N: usize> Seam<N> for PlainApart<O> {
+    ghost use Rattle.std.specs.Prelude.{◌≡◌, false};
+    ghost use Rattle.ts_meet.specs.Joints.{IsPlain, numbered};
+    ghost use Rattle.ts_meet.specs.SideLaws.{plain_with_worth};
+
+    ghost fits = { λ g. (g.joins ≡ false) × (g.result ≡ numbered O) × (g.wide ≡ false) };
+
+    ghost takes = { λ g a b. IsPlain g a b };
+
+    ghost any_worth = { λ g d h. h };
+
+    ghost takes_any = { λ g d a b h. plain_with_worth g d a b h };
+
+    #[inline(always)]
+    fn glued(self, gluing: Gluing, left: &PackedHull<N>, right: &PackedHull<N>) -> Ends {
+        let known = gluing.known(numbered(O), gluing.fold, false);
+        known.glued_plainly(left, right)
+    }
+}
+
+impl<const O: u8, const F: u8, const N: usize> Seam<N> for Between<O, F> {
     ghost use Rattle.std.specs.Prelude.{◌≡◌, true, false};
+    ghost use Rattle.ts_meet.specs.Joints.{IsPlain, numbered};
+    ghost use Rattle.ts_meet.specs.SideLaws.{plain_with_worth};
 
-    ghost fits = { λ g. (g.joins ≡ true) × (g.trims ≡ false) };
+    ghost fits = { λ g. (g.joins ≡ true) × (g.trims ≡ true) × (g.result ≡ numbered O) × (g.fold ≡ numbered F)
+        × (g.wide ≡ false) };
+
+    ghost takes = { λ g a b. IsPlain g a b };
 
     ghost any_worth = { λ g d h. h };
 
+    ghost takes_any = { λ g d a b h. plain_with_worth g d a b h };
+
     #[inline(always)]
     fn glued(self, gluing: Gluing, left: &PackedHull<N>, right: &PackedHull<N>) -> Ends {
-        gluing.glued_both(left, right)
+        let known = gluing.known(numbered(O), numbered(F), false);
+        known.glued_between(left, right)
+    }
+}
+
+impl<const O: u8, const F: u8, const N: usize> Seam<N> for Both<O, F> {
+    ghost use Rattle.std.specs.Prelude.{◌≡◌, true, false};
+    ghost use Rattle.ts_meet.specs.Joints.{IsPlain, numbered};
+    ghost use Rattle.ts_meet.specs.SideLaws.{plain_with_worth};
+
+    ghost fits = { λ g. (g.joins ≡ true) × (g.trims ≡ false) × (g.result ≡ numbered O) × (g.fold ≡ numbered F)
+        × (g.wide ≡ false) };
+
+    ghost takes = { λ g a b. IsPlain g a b };
+
+    ghost any_worth = { λ g d h. h };
+
+    ghost takes_any = { λ g d a b h. plain_with_worth g d a b h };
+
+    #[inline(always)]
+    fn glued(self, gluing: Gluing, left: &PackedHull<N>, right: &PackedHull<N>) -> Ends {
+        let known = gluing.known(numbered(O), numbered(F), false);
+        known.glued_both(left, right)
+    }
+}
+
+impl<const N: usize> Seam<N> for Any {
+    ghost fits = { λ g. Unit {0} };
+
+    ghost takes = { λ g a b. Unit {0} };
+
+    ghost any_worth = { λ g d h. h };
+
+    ghost takes_any = { λ g d a b h. h };
+
+    #[inline(always)]
+    fn glued(self, gluing: Gluing, left: &PackedHull<N>, right: &PackedHull<N>) -> Ends {
+        gluing.glued(left, right)
     }
 }

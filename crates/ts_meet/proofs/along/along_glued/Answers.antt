@@ -5,11 +5,12 @@ use Rattle.ts_base.specs.declared.span.Span.{Span}
 use Rattle.ts_automaton.specs.AutomatonRun.{Standing}
 use Rattle.ts_base.specs.Limits.{IsCellValue}
 use Rattle.ts_base.specs.Spans.{span_hull}
-use Rattle.ts_row.specs.Rows.{lanes_of}
+use Rattle.ts_row.specs.Rows.{lanes_of, nothing}
 use Rattle.ts_sweep.specs.Packed.{IsPacked}
 use Rattle.ts_sweep.specs.Sides.{lane_count, sides}
 use Rattle.ts_meet.specs.Along.{pair_along}
 use Rattle.ts_meet.specs.Meets.{glued_seen}
+use Rattle.ts_meet.specs.Peaks.{IsTaken}
 use Rattle.ts_meet.specs.Settled.{with_hull, with_hull_at}
 use Rattle.ts_meet.specs.Sides.{StandFor}
 use Rattle.ts_meet.proofs.Asking.{read_there}
@@ -31,7 +32,11 @@ with_value-hull-requires g c =
     let there = subst (λ z. IsPacked (lane_count n) (lanes_of n z))
     (sym (read_there n right at _ c.index-right-from.is (let e = given.right.0 in omega (arith, e, place)))) (given.right.1 at place) in
     let few = given.values i before in let fits : SFits w64 x = search rules in
-    (search rules, (given.fits, (given.registers, (given.alone, (here, (there, subst IsCellValue (sym (to_z-of_z w64 x fits)) few))))))
+    let is_left = read_there n left at _ c.index-left-from.is (let e = given.left.0 in omega (arith, e, place)) in
+    let is_right = read_there n right at _ c.index-right-from.is (let e = given.right.0 in omega (arith, e, place)) in
+    let taken = subst (λ z. IsTaken n (g.S.Seam.takes c.args.gluing) z c.index-right-from.result) (sym is_left)
+    (subst (IsTaken n (g.S.Seam.takes c.args.gluing) (get_or left at (nothing n))) (sym is_right) (given.takes i before)) in
+    (search rules, (given.fits, (given.registers, (given.alone, (here, (there, (subst IsCellValue (sym (to_z-of_z w64 x fits)) few, taken)))))))
 
 pub loop-i-preserved : goal.loop-i-preserved
 loop-i-preserved g c p q r h is =

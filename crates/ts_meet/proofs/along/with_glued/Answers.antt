@@ -29,7 +29,8 @@ glued-requires g c =
     let n = lane_count g.row.N in
     let here = not_nothing n (lanes_of g.row.N c.args.left.now) (sym c.is_some.ensures ∙ c.if-not-is_some.false) c.requires.left in
     let there = not_nothing n (lanes_of g.row.N c.args.right.now) (sym c.is_some-2.ensures ∙ c.if-not-is_some-2.false) c.requires.right in
-    (search rules, (c.requires.fits, (c.requires.registers, (c.requires.alone, (here, (there, c.requires.worth))))))
+    let taken = c.requires.takes (sym c.is_some.ensures ∙ c.if-not-is_some.false) (sym c.is_some-2.ensures ∙ c.if-not-is_some-2.false) in
+    (search rules, (c.requires.fits, (c.requires.registers, (c.requires.alone, (here, (there, (c.requires.worth, taken)))))))
 
 pub returns : goal.returns
 returns g c p q r x s h is stands =
