@@ -1,21 +1,27 @@
 -- Tables that are filled row by row: what the loops over the cells keep.
-use Rattle.std.proofs.Common.{◌≡◌, ◌⊎◌, inl, inr, ℕ, zero, suc, ◌+◌, ◌-◌, ◌*◌, ◌<◌, ◌≤◌, Bool, true, false, cond, ℤ, Option, Some, None, List, [], ◌∷◌, length, map, take, drop, set, get_or, replicate, refl, sym, ap, ◌∙◌, subst, arith}
-use Rattle.std.specs.Prelude.{IsTrue, reverse}
-use Rattle.std.proofs.lemmas.List.{length-map, get_or-map, length-replicate, length-set, get_or-set_same, take_more, drop_more, drop_all, reverse-append}
+use Rattle.std.proofs.Common.{◌≡◌, ◌⊎◌, inl, inr, ℕ, zero, suc, ◌+◌, ◌-◌, ◌*◌, ◌<◌, ◌≤◌, Bool, true, false, cond, ℤ, Option, List, [], ◌∷◌, length, map, set, get_or, replicate, refl, sym, ap, ◌∙◌, subst, arith}
+use Rattle.std.proofs.lemmas.List.{length-map, get_or-map, length-replicate, length-set, get_or-set_same, length-reverse}
 use Rattle.ts_base.specs.declared.range.Range.{Range}
 use Rattle.ts_base.specs.Windows.{LooksInside, looked_at}
 use Rattle.ts_automaton.specs.declared.regs.Hull.{Hull}
-use Rattle.ts_automaton.specs.Typing.{is_automaton}
 use Rattle.ts_automaton.specs.Body.{Body}
 use Rattle.ts_hull.specs.Hulls.{none}
 use Rattle.ts_bound.specs.HullTables.{row_of, cells_before, cells_after, forward_rows, backward_rows, only_looked, forward_table, backward_table}
 use Rattle.ts_bound.specs.Looks.{is_looked, first_looked, last_looked, place_in}
-use Rattle.ts_bound.specs.NextRow.{RowStands, next_row}
 use Rattle.ts_bound.specs.Rows.{row_at}
+use Rattle.ts_bound.specs.BoxRows.{AreFirst}
+use Rattle.ts_bound.specs.PackedRows.{seen_row}
+use Rattle.ts_bound.specs.PlainRows.{place_by, table_by}
+use Rattle.ts_bound.specs.Reading.{in_order}
+use Rattle.ts_bound.specs.RowStacks.{sight}
+use Rattle.ts_bound.specs.declared.reading.Direction.{Direction}
+use Rattle.ts_bound.specs.declared.reading.Direction.TheVariants.{FromFirst, FromLast}
+use Rattle.ts_sweep.specs.Sides.{Sides, BothEnds}
 use Rattle.ts_bound.proofs.Emptied.{only_length, only_size}
+use Rattle.ts_bound.proofs.KnownRows.{ahead_there, back_there}
 use Rattle.ts_bound.proofs.Looking.{looked_bounds, looked_by, looked_length, looked_get, place_inside, place_bounds, ends_inside, windowed_length, windowed_outside}
 use Rattle.ts_bound.proofs.SpanRuns.{ahead_begun, behind_begun}
-use Rattle.ts_bound.proofs.TableLaws.{row_from_row, row_stands, length-row_of, length-forward, length-backward}
+use Rattle.ts_bound.proofs.TableLaws.{length-row_of, length-forward, length-backward}
 
 -- the rows of the cells from lo to hi are those of the table T, and every row is as long as there
 pub record IsFilled (T : List (List Hull)) (lo hi : ℕ) (t : List (List Hull)) : Type 0 where
@@ -79,38 +85,6 @@ filled_all T t lo hi f cover = same_rows t T f.long at
         ap (λ j. get_or t j []) (sym e) ∙ go (i + 1) (omega arith) (omega (arith, lt)) (cover (i + 1) (omega arith) (omega (arith, lt)))
         ∙ ap (λ j. get_or T j []) e
 
--- the ends of the cells that are looked at
-
-pub no_cells : (w : Option Range) (n : ℕ) → LooksInside n w → last_looked w n ≡ 0 → n ≡ 0
-no_cells None n looks e = e
-no_cells (Some r) n looks e = let first = looks.0 in let order = looks.1 in absurd (omega (arith, first, order, e))
-
--- where there is a cell
-pub record AreEnds (w : Option Range) (n from to : ℕ) : Type 0 where
-  pub some : 1 ≤ n
-  pub first : from ≡ first_looked w
-  pub last : to ≡ last_looked w n
-  pub low : 1 ≤ from
-  pub order : from ≤ to
-  pub few : to ≤ n
-
-pub are_ends : (w : Option Range) (n total from to : ℕ) → LooksInside n w → total ≡ n → from ≡ first_looked w → to ≡ last_looked w total → (to ≡ 0 → ⊥) →
-    AreEnds w n from to
-are_ends w n total from to looks is_n is_first is_last more =
-    let e = ends_inside w n looks in
-    let l : to ≡ last_looked w n = is_last ∙ ap (last_looked w) is_n in
-    let low = e.0 in let high = e.1 in
-    let some : 1 ≤ n = omega (arith, more, l, high) in
-    let order = e.2 some in
-    record {
-      some = some;
-      first = is_first;
-      last = l;
-      low = omega (arith, is_first, low);
-      order = omega (arith, is_first, l, order);
-      few = omega (arith, l, high);
-    }
-
 -- each cell that is looked at has its row in T, where runs have read the cells on one side of it; the other rows are empty
 pub record IsTable (b : Body) (w : Option Range) (cells : List (List ℤ)) (T : List (List Hull)) (side : ℕ → List (List ℤ)) : Type 0 where
   pub long : length T ≡ length cells
@@ -149,53 +123,6 @@ module _ (b : Body) (w : Option Range) (cells : List (List ℤ)) (looks : LooksI
         outside = λ k some few away. windowed_outside (length cells) rows k w looks long some few away;
       }
 
-  -- what stands on the side of a cell
-
-  next_place : (k : ℕ) → 1 ≤ k → k + 1 ≤ length cells → is_looked w k ≡ true → is_looked w (k + 1) ≡ true → place_in w (k + 1) ≡ place_in w k + 1
-  next_place k some few here next =
-      let low = (looked_bounds w (length cells) k some (omega (arith, few)) here).0 in
-      let first = (ends_inside w (length cells) looks).0 in
-      let e : (k + 1) - (first_looked w - 1) ≡ (k - (first_looked w - 1)) + 1 = omega (arith, low, first) in
-      place_inside w (k + 1) next ∙ e ∙ sym (ap (λ p. p + 1) (place_inside w k here))
-
-  pub before_next : (k : ℕ) → 1 ≤ k → k + 1 ≤ length cells → is_looked w k ≡ true → is_looked w (k + 1) ≡ true →
-      before_cell (k + 1) ≡ get_or cells (k - 1) [] ∷ before_cell k
-  before_next k some few here next =
-      let p = place_in w k in
-      let bounds = place_bounds w (length cells) k looks some (omega (arith, few)) in let low = bounds.0 in let high = bounds.1 in
-      let long = looked_length w cells looks in
-      let e : place_in w (k + 1) - 1 ≡ (p - 1) + 1 = (let n = next_place k some few here next in omega (arith, n, low)) in
-      ap (λ i. reverse (take i inner)) e ∙ ap reverse (take_more inner (p - 1) [] (omega (arith, low, high, long)))
-      ∙ reverse-append (take (p - 1) inner) (get_or inner (p - 1) [] ∷ [])
-      ∙ ap (λ d. d ∷ before_cell k) (looked_get cells k w [] looks here)
-
-  pub after_last : (k : ℕ) → 1 ≤ k → k + 1 ≤ length cells → is_looked w k ≡ true → is_looked w (k + 1) ≡ true →
-      after_cell k ≡ get_or cells ((k + 1) - 1) [] ∷ after_cell (k + 1)
-  after_last k some few here next =
-      let p = place_in w k in
-      let n = next_place k some few here next in
-      let high = (place_bounds w (length cells) (k + 1) looks (omega arith) few).1 in
-      let long = looked_length w cells looks in
-      let e : p ≡ place_in w (k + 1) - 1 = omega (arith, n) in
-      drop_more inner p [] (omega (arith, n, high, long))
-      ∙ ap (λ d. d ∷ drop (p + 1) inner) (ap (λ i. get_or inner i []) e ∙ looked_get cells (k + 1) w [] looks next)
-      ∙ ap (λ i. get_or cells ((k + 1) - 1) [] ∷ drop i inner) (sym n)
-
-  pub none_before : 1 ≤ length cells → before_cell (first_looked w) ≡ []
-  none_before some =
-      let e = ends_inside w (length cells) looks in let low = e.0 in let order = e.2 some in
-      let z : first_looked w - (first_looked w - 1) - 1 ≡ 0 = omega (arith, low) in
-      ap (λ p. reverse (take (p - 1) inner)) (place_inside w (first_looked w) (looked_by w (length cells) (first_looked w) (omega arith) order))
-      ∙ ap (λ i. reverse (take i inner)) z
-
-  pub none_after : 1 ≤ length cells → after_cell (last_looked w (length cells)) ≡ []
-  none_after some =
-      let e = ends_inside w (length cells) looks in let order = e.2 some in
-      let last = last_looked w (length cells) in
-      let p = place_inside w last (looked_by w (length cells) last order (omega arith)) in
-      let long = looked_length w cells looks in
-      drop_all (place_in w last) inner (omega (arith, p, long))
-
   module _ (T : List (List Hull)) (side : ℕ → List (List ℤ)) (made : IsTable b w cells T side) where
     -- at first no row is filled
     pub filled_none : (m : ℕ) (t : List (List Hull)) (lo hi : ℕ) → hi < lo → m ≡ length b.states →
@@ -225,108 +152,67 @@ module _ (b : Body) (w : Option Range) (cells : List (List ℤ)) (looks : LooksI
             ∙ ap (λ n. n * m) (sym (only_size w cells k (cond (is_looked w k) (length (get_or cells (k - 1) [])) 0) looks some few refl))
             ∙ by_look k some few (is_looked w k) refl
 
-    -- a box without a cell has no row
-    pub none_is : (m : ℕ) (t : List (List Hull)) → length cells ≡ 0 → m ≡ length b.states →
-        t ≡ map (λ d. replicate (length d * m) none) (only_looked w cells) → t ≡ T
-    none_is m t without is_m is =
-        let long = made.long in
-        filled_all T t 1 0 (filled_none m t 1 0 (omega arith) is_m is) (λ k some few. absurd (omega (arith, some, few, long, without)))
+    -- the length of a row that isn't filled yet
+    pub sized : (t : List (List Hull)) (lo hi k : ℕ) → IsFilled T lo hi t → 1 ≤ k → k ≤ length cells → length (row_at k t) ≡ length (row_at k T)
+    sized t lo hi k f some few = let long = made.long in f.sizes k some (omega (arith, long, few))
 
-    -- the row of a cell that runs start at
-    pub first_is : (k : ℕ) → 1 ≤ k → k ≤ length cells → is_looked w k ≡ true → side k ≡ [] → row_of b [] (get_or cells (k - 1) []) ≡ row_at k T
-    first_is k some few there e = sym (made.rows k some few there ∙ ap (λ s. row_of b s (get_or cells (k - 1) [])) e)
-
-    -- a row that is filled
-    module _ (t : List (List Hull)) (lo hi k : ℕ) (f : IsFilled T lo hi t) (some : 1 ≤ k) (few : k ≤ length cells) (there : is_looked w k ≡ true) where
-      pub sized : length (row_at k t) ≡ length (get_or cells (k - 1) []) * length b.states
-      sized =
-          let long = made.long in
-          f.sizes k some (omega (arith, long, few)) ∙ ap length (made.rows k some few there) ∙ length-row_of b (side k) (get_or cells (k - 1) [])
-
-      module _ (low : lo ≤ k) (high : k ≤ hi) where
-        pub filled_stands : IsTrue (is_automaton b) → RowStands b (get_or cells (k - 1) []) (row_at k t)
-        filled_stands rules =
-            subst (RowStands b (get_or cells (k - 1) [])) (sym (f.rows k low high ∙ made.rows k some few there))
-            (row_stands b rules (side k) (get_or cells (k - 1) []))
-
-        -- and the one that is made of it
-        pub next_is : (j : ℕ) → 1 ≤ j → j ≤ length cells → is_looked w j ≡ true → side j ≡ get_or cells (k - 1) [] ∷ side k →
-            next_row b (get_or cells (k - 1) []) (row_at k t) (get_or cells (j - 1) []) ≡ row_at j T
-        next_is j some' few' there' e =
-            ap (λ r. next_row b (get_or cells (k - 1) []) r (get_or cells (j - 1) [])) (f.rows k low high ∙ made.rows k some few there)
-            ∙ sym (row_from_row b (get_or cells (k - 1) []) (side k) (get_or cells (j - 1) []))
-            ∙ sym (made.rows j some' few' there' ∙ ap (λ s. row_of b s (get_or cells (j - 1) [])) e)
-
-  -- the loops
-
-  module _ (from to : ℕ) (e : AreEnds w (length cells) from to) where
-    pub there_at : (k : ℕ) → from ≤ k → k ≤ to → (1 ≤ k) × (k ≤ length cells) × (is_looked w k ≡ true)
-    there_at k low high =
-        let some = e.low in let few = e.few in let first = e.first in let last = e.last in
-        (omega (arith, some, low), omega (arith, few, high), looked_by w (length cells) k (omega (arith, first, low)) (omega (arith, last, high)))
-
-    -- a cell is among those, or has an empty row
-    looked_or : (T : List (List Hull)) (side : ℕ → List (List ℤ)) → IsTable b w cells T side → (lo hi : ℕ) → lo ≤ from → to ≤ hi →
-        (k : ℕ) → 1 ≤ k → k ≤ length T → ((lo ≤ k) × (k ≤ hi)) ⊎ (row_at k T ≡ [])
-    looked_or T side made lo hi below above k some few = go (is_looked w k) refl
+    -- all that are looked at are filled
+    pub filled_whole : (t : List (List Hull)) (lo hi : ℕ) → lo ≤ first_looked w → last_looked w (length cells) ≤ hi → IsFilled T lo hi t → t ≡ T
+    filled_whole t lo hi below above f = filled_all T t lo hi f (λ k some few. go k some few (is_looked w k) refl)
       where
-        few' : k ≤ length cells
-        few' = let long = made.long in omega (arith, few, long)
+        go : (k : ℕ) → 1 ≤ k → k ≤ length T → (v : Bool) → is_looked w k ≡ v → ((lo ≤ k) × (k ≤ hi)) ⊎ (row_at k T ≡ [])
+        go k some few true there =
+            let b = looked_bounds w (length cells) k some (subst (λ n. k ≤ n) made.long few) there in let low = b.0 in let high = b.1 in
+            inl (omega (arith, below, low), omega (arith, above, high))
+        go k some few false away = inr (made.outside k some (subst (λ n. k ≤ n) made.long few) away)
 
-        go : (v : Bool) → is_looked w k ≡ v → ((lo ≤ k) × (k ≤ hi)) ⊎ (row_at k T ≡ [])
-        go true there =
-            let b = looked_bounds w (length cells) k some few' there in let low = b.0 in let high = b.1 in let first = e.first in let last = e.last in
-            inl (omega (arith, below, first, low), omega (arith, above, last, high))
-        go false away = inr (made.outside k some few' away)
+  -- by the order in which cells are read
 
-    pub on_start : (t t' : List (List Hull)) → IsFilled (forward_table b w cells) 1 0 t → t' ≡ set t (from - 1) (row_of b [] (get_or cells (from - 1) [])) →
-        IsFilled (forward_table b w cells) from from t'
-    on_start t t' f is =
-        let h = there_at from (omega arith) e.order in let some = h.0 in let few = h.1 in let long = forward_is.long in
-        filled_with (forward_table b w cells) t t' 1 0 from from from _ f some (omega (arith, few, long)) is
-        (first_is (forward_table b w cells) before_cell forward_is from some few h.2 (ap before_cell e.first ∙ none_before e.some))
-        (λ j low high. inl (omega (arith, low, high)))
+  abbrev pub side_by : Direction → ℕ → List (List ℤ)
+  side_by FromFirst = before_cell
+  side_by FromLast = after_cell
 
-    pub on_step : (k : ℕ) (t t' : List (List Hull)) → from ≤ k → k < to → IsFilled (forward_table b w cells) from k t →
-        t' ≡ set t k (next_row b (get_or cells (k - 1) []) (row_at k t) (get_or cells ((k + 1) - 1) [])) → IsFilled (forward_table b w cells) from (k + 1) t'
-    on_step k t t' low high f is =
-        let h = there_at k low (omega (arith, high)) in let n = there_at (k + 1) (omega (arith, low)) (omega (arith, high)) in
-        let few = n.1 in let long = forward_is.long in
-        let at : k ≡ (k + 1) - 1 = omega arith in
-        let row = next_row b (get_or cells (k - 1) []) (row_at k t) (get_or cells ((k + 1) - 1) []) in
-        filled_with (forward_table b w cells) t t' from k from (k + 1) (k + 1) _ f n.0 (omega (arith, few, long)) (is ∙ ap (λ i. set t i row) at)
-        (next_is (forward_table b w cells) before_cell forward_is t from k k f h.0 h.1 h.2 low (omega arith) (k + 1) n.0 n.1 n.2
-        (before_next k h.0 n.1 h.2 n.2))
-        (λ j a c. last_or j a c)
-      where
-        last_or : (j : ℕ) → from ≤ j → j ≤ k + 1 → (j ≡ k + 1) ⊎ ((from ≤ j) × (j ≤ k))
-        last_or j a c = grind arith
+  pub table_is : (d : Direction) → IsTable b w cells (table_by d b w cells) (side_by d)
+  table_is FromFirst = forward_is
+  table_is FromLast = backward_is
 
-    pub on_all : (k : ℕ) (t : List (List Hull)) → to ≤ k → IsFilled (forward_table b w cells) from k t → t ≡ forward_table b w cells
-    on_all k t end f = filled_all (forward_table b w cells) t from k f (looked_or (forward_table b w cells) before_cell forward_is from k (omega arith) end)
+  seen_whole : (ends : Sides) (row : List Hull) → ends ≡ BothEnds → seen_row ends row ≡ row
+  seen_whole ends row e = ap (λ s. seen_row s row) e ∙ go row
+    where
+      go : (row : List Hull) → seen_row BothEnds row ≡ row
+      go [] = refl
+      go (h ∷ row) = ap (λ l. h ∷ l) (go row)
 
-    pub back_start : (t t' : List (List Hull)) → IsFilled (backward_table b w cells) 1 0 t → t' ≡ set t (to - 1) (row_of b [] (get_or cells (to - 1) [])) →
-        IsFilled (backward_table b w cells) to to t'
-    back_start t t' f is =
-        let h = there_at to e.order (omega arith) in let some = h.0 in let few = h.1 in let long = backward_is.long in
-        filled_with (backward_table b w cells) t t' 1 0 to to to _ f some (omega (arith, few, long)) is
-        (first_is (backward_table b w cells) after_cell backward_is to some few h.2 (ap after_cell e.last ∙ none_after e.some))
-        (λ j low high. inl (omega (arith, low, high)))
+  -- the row that was made for a cell is the row of the table
+  pub made_is : (d : Direction) (ends : Sides) (known : List (List Hull)) (k i : ℕ) → ends ≡ BothEnds → AreFirst (sight b ends) (in_order d inner) known →
+      length (in_order d inner) ≤ length known → first_looked w ≤ k → k ≤ last_looked w (length cells) →
+      i ≡ place_by d (first_looked w) (last_looked w (length cells)) k →
+      (i < length known) × (get_or known i [] ≡ row_at k (table_by d b w cells))
+  made_is FromFirst ends known k i e h all low high is =
+      let n = length cells in let p = place_in w k in
+      let bounds = ends_inside w n looks in let first = bounds.0 in let last = bounds.1 in
+      let there = looked_by w n k low high in let some : 1 ≤ k = omega (arith, first, low) in let few : k ≤ n = omega (arith, last, high) in
+      let place = place_inside w k there in let within = place_bounds w n k looks some few in let from = within.0 in let to = within.1 in
+      let long = looked_length w cells looks in
+      let at : i ≡ p - 1 = omega (arith, is, place, low, first) in (
+        omega (arith, at, from, to, long, all),
+        ahead_there (sight b ends) inner known (get_or known i []) [] p h from (omega (arith, to, long, all)) (ap (λ j. get_or known j []) at)
+            ∙ seen_whole ends (row_of b (before_cell k) (get_or inner (p - 1) [])) e
+            ∙ ap (row_of b (before_cell k)) (looked_get cells k w [] looks there) ∙ sym (forward_is.rows k some few there),
+      )
+  made_is FromLast ends known k i e h all low high is =
+      let n = length cells in let p = place_in w k in
+      let bounds = ends_inside w n looks in let first = bounds.0 in let last = bounds.1 in
+      let there = looked_by w n k low high in let some : 1 ≤ k = omega (arith, first, low) in let few : k ≤ n = omega (arith, last, high) in
+      let place = place_inside w k there in let within = place_bounds w n k looks some few in let from = within.0 in let to = within.1 in
+      let long = looked_length w cells looks in let turned = length-reverse inner in
+      let at : i ≡ length inner - p = omega (arith, is, place, low, high, first, long) in (
+        omega (arith, at, from, to, long, turned, all),
+        back_there (sight b ends) inner known (get_or known i []) [] p h from (omega (arith, to, long)) (omega (arith, from, to, long, turned, all))
+            (ap (λ j. get_or known j []) at)
+            ∙ seen_whole ends (row_of b (after_cell k) (get_or inner (p - 1) [])) e
+            ∙ ap (row_of b (after_cell k)) (looked_get cells k w [] looks there) ∙ sym (backward_is.rows k some few there),
+      )
 
-    pub back_step : (k j : ℕ) (t t' : List (List Hull)) → from < k → k ≤ to → j ≡ k - 1 → IsFilled (backward_table b w cells) k to t →
-        t' ≡ set t (j - 1) (next_row b (get_or cells ((j + 1) - 1) []) (row_at (j + 1) t) (get_or cells (j - 1) [])) →
-        IsFilled (backward_table b w cells) j to t'
-    back_step k j t t' low high is_j f is =
-        let up : j + 1 ≡ k = omega (arith, low, is_j) in
-        let h = there_at (j + 1) (omega (arith, low, up)) (omega (arith, high, up)) in let n = there_at j (omega (arith, low, is_j)) (omega (arith, high, is_j)) in
-        let few = n.1 in let long = backward_is.long in
-        filled_with (backward_table b w cells) t t' k to j to j _ f n.0 (omega (arith, few, long)) is
-        (next_is (backward_table b w cells) after_cell backward_is t k to (j + 1) f h.0 h.1 h.2 (omega (arith, up)) (omega (arith, up, high)) j n.0 n.1 n.2
-        (after_last j n.0 h.1 n.2 h.2))
-        (λ i a c. first_or i a c)
-      where
-        first_or : (i : ℕ) → j ≤ i → i ≤ to → (i ≡ j) ⊎ ((k ≤ i) × (i ≤ to))
-        first_or i a c = grind (arith, is_j, low)
-
-    pub back_all : (k : ℕ) (t : List (List Hull)) → k ≤ from → IsFilled (backward_table b w cells) k to t → t ≡ backward_table b w cells
-    back_all k t end f = filled_all (backward_table b w cells) t k to f (looked_or (backward_table b w cells) after_cell backward_is k to end (omega arith))
+pub last_or : (lo k j : ℕ) → lo ≤ j → j ≤ k + 1 → (j ≡ k + 1) ⊎ ((lo ≤ j) × (j ≤ k))
+last_or lo k j low high = grind arith

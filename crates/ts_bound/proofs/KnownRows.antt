@@ -144,7 +144,8 @@ turned_at b k some to =
     let at : length b - 1 - (length b - k) ≡ k - 1 = omega (arith, some, to) in
     get_or-reverse b (length b - k) [] (omega (arith, some, to)) ∙ ap (λ i. get_or b i []) at
 
-back_there : (a : Sight) (b : Box) (rows : Rows) (row d : List Hull) (k : ℕ) → AreFirst a (reverse b) rows → 1 ≤ k → k ≤ length b → length b - k < length rows →
+pub back_there : (a : Sight) (b : Box) (rows : Rows) (row d : List Hull) (k : ℕ) → AreFirst a (reverse b) rows → 1 ≤ k → k ≤ length b →
+    length b - k < length rows →
     row ≡ get_or rows (length b - k) d → row ≡ seen_row a.ends (row_of a.body (cells_after k b) (values_at k b))
 back_there a b rows row d k h some to lt is =
     let l = length-reverse b in let row_after = λ (z : Box) (vs : List ℤ). seen_row a.ends (row_of a.body z vs) in

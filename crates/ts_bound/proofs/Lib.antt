@@ -6,14 +6,12 @@ mod Steps
 mod Follows
 pub mod Reached
 pub mod SpanRuns
-mod Filled
 pub mod SpanEnds
 pub mod Singles
 pub mod Growth
 mod PackableLaws
 mod PutLaws
 pub mod SweptRows
-mod Starts
 pub mod SeenRows
 pub mod PackedRows
 pub mod ValueLaws
@@ -29,3 +27,5 @@ mod RoomLaws
 mod RowParts
 mod ShownRows
 mod WithoutValues
+mod PlainRows
+mod Filled

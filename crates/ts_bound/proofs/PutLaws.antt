@@ -1,5 +1,5 @@
 -- A move taken in, hull by hull.
-use Rattle.std.proofs.Common.{◌≡◌, ℕ, zero, suc, ◌+◌, ◌*◌, ◌<◌, false, cond, ℤ, pos, List, [], ◌∷◌, length, get_or, set, refl, sym, ◌∙◌, ap, subst, arith}
+use Rattle.std.proofs.Common.{◌≡◌, ℕ, zero, suc, ◌+◌, ◌*◌, ◌<◌, false, cond, ℤ, pos, List, [], ◌∷◌, length, get_or, set, replicate, refl, sym, ◌∙◌, ap, subst, arith}
 use Rattle.ts_base.specs.declared.letter.Letter.{Letter}
 use Rattle.ts_automaton.specs.declared.regs.Hull.{Hull}
 use Rattle.ts_automaton.specs.Body.{Move}
@@ -7,6 +7,15 @@ use Rattle.ts_hull.specs.Hulls.{none, hull_of_both}
 use Rattle.ts_hull.specs.Sealed.{after_move}
 use Rattle.ts_hull.specs.Sweeps.{AllTakeNone, compares, hull_in, total, pair_gives, move_entry, step_place, puts, with_move}
 use Rattle.ts_hull.proofs.HullLaws.{TakesNone, both_takes_none, none_takes_none}
+
+-- each hull of a row that was filled with none is none
+pub all_none : (n : ℕ) (h : Hull) (row : List Hull) → row ≡ replicate n h → h ≡ none → (p : ℕ) → get_or row p none ≡ none
+all_none n h row is e p = ap (λ r. get_or r p none) (is ∙ ap (replicate n) e) ∙ go n p
+  where
+    go : (n p : ℕ) → get_or (replicate n none) p none ≡ none
+    go zero p = refl
+    go (suc n) zero = refl
+    go (suc n) (suc p) = go n p
 
 -- each hull stays as it is beside none
 

@@ -1,8 +1,8 @@
--- Each row of a table from its neighbour; the kinds of its hulls; and what is written into a table.
-use Rattle.std.proofs.Common.{◌≡◌, ℕ, zero, suc, ◌+◌, ◌*◌, ◌-◌, ◌<◌, ◌≤◌, ◌⊎◌, inl, inr, ℤ, Bool, true, false, cond, nat_eq, List, [], ◌∷◌, ◌++◌, length, map, take, drop, set, get_or, refl, sym, ap, ◌∙◌, subst, arith}
+-- Each row of a table from its neighbour; the kinds of its hulls.
+use Rattle.std.proofs.Common.{◌≡◌, ℕ, zero, suc, ◌+◌, ◌*◌, ◌<◌, ◌≤◌, ◌⊎◌, inl, inr, ℤ, Bool, true, false, cond, nat_eq, List, [], ◌∷◌, ◌++◌, length, map, take, drop, get_or, refl, sym, ap, ◌∙◌, subst, arith}
 use Rattle.std.specs.Prelude.{IsTrue, fold, flat_map}
 use Rattle.std.specs.List.{range_with_len, AllByRecursion}
-use Rattle.std.proofs.lemmas.List.{length-append, get_or-set_other, set-get_or}
+use Rattle.std.proofs.lemmas.List.{length-append}
 use Rattle.std.proofs.lemmas.List.FromFn.{length-map-range_with_len}
 use Rattle.std.proofs.lemmas.Bool.{eqb-true}
 use Rattle.std.proofs.Math.Seq.{take-append_seam, drop-append_seam}
@@ -24,9 +24,7 @@ use Rattle.ts_automaton.proofs.KindLaws.{spans_typed}
 use Rattle.ts_automaton.proofs.StepLaws.{start_stands, spans_have, move_keeps}
 use Rattle.ts_base.specs.Signature.{letter_of}
 use Rattle.ts_hull.specs.Hulls.{hull_of, none, hull_of_both}
-use Rattle.ts_bound.specs.NextRow.{Source, source, standing_at, sources_from, sources, hull_from, next_hull, next_hulls, next_row, states_of, RowStands}
-use Rattle.ts_bound.specs.Rows.{IsRow, row_at, with_written}
-use Rattle.ts_bound.proofs.RowLaws.{row_written, rows_written}
+use Rattle.ts_bound.specs.NextRow.{Source, source, standing_at, sources_from, sources, hull_from, next_hull, next_hulls, next_row, states_of}
 use Rattle.ts_bound.specs.HullTables.{start_hull, hull_at, hulls_at, row_of, rows_behind, backward_rows}
 use Rattle.ts_domain.proofs.Sets.{all_append}
 
@@ -65,11 +63,6 @@ length-flat n f (v ∷ vs) h = let a = length-append (f v) (flat_map f vs) in le
 pub length-row_of : (b : Body) (before : List (List ℤ)) (vs : List ℤ) → length (row_of b before vs) ≡ length vs * length b.states
 unfolding row_of hulls_at
 length-row_of b before vs = length-flat (length b.states) _ vs (λ v. length-map-range_with_len (hull_at b before v) 0 (length b.states))
-
-pub length-next_row : (b : Body) (us : List ℤ) (row : List Hull) (vs : List ℤ) → length (next_row b us row vs) ≡ length vs * length b.states
-unfolding next_row next_hulls
-length-next_row b us row vs =
-    let s = sources (length b.states) us row in length-flat (length b.states) _ vs (λ v. length-map-range_with_len (next_hull b s v) 0 (length b.states))
 
 -- kinds
 
@@ -193,12 +186,6 @@ module _ (b : Body) (rules : IsTrue (is_automaton b)) where
       go false e = inl refl
   hull_kept (us ∷ before) v q = kept_all b q none _ (inl refl) (kept_givens _ (all_stand before us (hull_kept before)) v q)
 
-  pub row_stands : (before : List (List ℤ)) (us : List ℤ) → RowStands b us (row_of b before us)
-  unfolding row_of hulls_at
-  row_stands before us =
-      subst (AllByRecursion (λ s. HullStands b (standing_at s))) (sym (sources_of (hull_at b before) (length b.states) us))
-      (all_stand before us (hull_kept before))
-
 -- the rows of a table
 
 pub row_on : (b : Body) (before cells : List (List ℤ)) (i : ℕ) → suc i < length cells →
@@ -218,46 +205,3 @@ pub length-backward : (b : Body) (cells : List (List ℤ)) → length (backward_
 unfolding backward_rows
 length-backward b [] = refl
 length-backward b (v ∷ cells) = ap suc (length-backward b cells)
-
--- what is written into a table
-
-pub start_written : (b : Body) (t : List (List Hull)) (k : ℕ) (row : List Hull) (d e : List ℤ) → IsRow k t → d ≡ e →
-    length (row_at k t) ≡ length e * length b.states →
-    row ≡ row_of b [] d → with_written t (k - 1) row ≡ set t (k - 1) (row_of b [] e)
-start_written b t k row d e is_row same long is =
-    let r : row ≡ row_of b [] e = is ∙ ap (row_of b []) same in
-    let first = is_row.0 in let last = is_row.1 in
-    row_written t (k - 1) row (omega (arith, first, last)) (ap length r ∙ length-row_of b [] e ∙ sym long) ∙ ap (set t (k - 1)) r
-
--- of the rows of cells k and k + 1, which were lent, the second
-pub on_written : (b : Body) (v : List (List Hull)) (k : ℕ) (a x : List Hull) (d e d' e' : List ℤ) → 1 ≤ k → k + 1 ≤ length v → a ≡ row_at k v → d ≡ e →
-    d' ≡ e' → length (row_at (k + 1) v) ≡ length e' * length b.states → x ≡ next_row b d a d' →
-    with_written v (k - 1) (a ++ x) ≡ set v k (next_row b e (row_at k v) e')
-on_written b v k a x d e d' e' first last is_a same same' long is =
-    let s : x ≡ next_row b e (row_at k v) e' =
-    is ∙ ap (λ z. next_row b z a d') same ∙ ap (λ z. next_row b e z d') is_a ∙ ap (next_row b e (row_at k v)) same' in
-    rows_written v k a x first last (ap length is_a) (ap length s ∙ length-next_row b e (row_at k v) e' ∙ sym long)
-    ∙ ap (λ r. set (set v (k - 1) r) k x) is_a ∙ ap (λ t. set t k x) (set-get_or v (k - 1) []) ∙ ap (set v k) s
-
--- the first
-pub back_written : (b : Body) (v : List (List Hull)) (k : ℕ) (a x : List Hull) (d e d' e' : List ℤ) → 1 ≤ k → k + 1 ≤ length v → x ≡ row_at (k + 1) v →
-    d ≡ e → d' ≡ e' → length (row_at k v) ≡ length e' * length b.states → a ≡ next_row b d x d' →
-    with_written v (k - 1) (a ++ x) ≡ set v (k - 1) (next_row b e (row_at (k + 1) v) e')
-back_written b v k a x d e d' e' first last is_x same same' long is =
-    let s : a ≡ next_row b e (row_at (k + 1) v) e' =
-    is ∙ ap (λ z. next_row b z x d') same ∙ ap (λ z. next_row b e z d') is_x ∙ ap (next_row b e (row_at (k + 1) v)) same' in
-    let t = set v (k - 1) a in
-    let stays : x ≡ get_or t k [] =
-    is_x ∙ ap (λ i. get_or v i []) (let z : (k + 1) - 1 ≡ k = omega arith in z)
-    ∙ sym (get_or-set_other v (k - 1) k a [] (λ p. absurd (omega (arith, first, p)))) in
-    rows_written v k a x first last (ap length s ∙ length-next_row b e (row_at (k + 1) v) e' ∙ sym long) (ap length is_x)
-    ∙ ap (set t k) stays ∙ set-get_or t k [] ∙ ap (set v (k - 1)) s
-
--- what a row asks of the rows that were lent
-pub before_size : (b : Body) (v : List (List Hull)) (k : ℕ) (a : List Hull) (d e : List ℤ) → a ≡ row_at k v → d ≡ e →
-    length (row_at k v) ≡ length e * length b.states → length a ≡ length d * length b.states
-before_size b v k a d e is same long = ap length is ∙ long ∙ ap (λ z. length z * length b.states) (sym same)
-
-pub before_stands : (b : Body) (v : List (List Hull)) (k : ℕ) (a : List Hull) (d e : List ℤ) → a ≡ row_at k v → d ≡ e → RowStands b e (row_at k v) →
-    RowStands b d a
-before_stands b v k a d e is same h = subst (RowStands b d) (sym is) (subst (λ z. RowStands b z (row_at k v)) (sym same) h)

@@ -18,3 +18,4 @@ pub mod Reading
 pub mod Room
 pub mod RowStacks
 pub mod RowWindows
+pub mod PlainRows

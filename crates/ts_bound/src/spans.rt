@@ -1,6 +1,19 @@
 //! The spans of a machine at a cell.
 
-ghost use Rattle.std.specs.Prelude.{◌≡◌, ◌+◌, ◌*◌, ◌≤◌, Contains, IsSome, IsTrue, MatchOption, Some, length, slice_get, slice_range};
+ghost use Rattle.std.specs.Prelude.{
+  ◌≡◌,
+  ◌+◌,
+  ◌*◌,
+  ◌≤◌,
+  Contains,
+  IsSome,
+  IsTrue,
+  MatchOption,
+  Some,
+  length,
+  slice_get,
+  slice_range,
+};
 ghost use Rattle.ts_automaton.specs.Typing.{is_automaton};
 ghost use Rattle.ts_base.specs.Windows.{looked_at};
 ghost use Rattle.ts_bound.specs.Blocks.{AreBackRows, OfReverse, back_states};

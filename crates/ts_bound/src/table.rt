@@ -99,7 +99,7 @@ impl HullTable {
     }
 
     /// The rows of cells `k` and `k + 1` as one.
-    pub(crate) fn both_mut(&mut self, k: u32) -> &mut [Hull]
+    fn both_mut(&mut self, k: u32) -> &mut [Hull]
         requires first { 1 ≤ k }
         requires last { k + 1 ≤ length self.old }
         ensures* writes_back { sem 𝓛 (LendsRow self.entry k result) }
@@ -123,20 +123,12 @@ impl HullTable {
         cut(self.both_mut(k), len)
     }
 
-    // the same as `row_len`, of a table that is lent for change
+    /// How many hulls the row of cell `k` has.
     fn width(&mut self, k: u32) -> usize
         requires first { 1 ≤ k }
         requires last { k ≤ length self.old }
         ensures same { self.new ≡ self.old }
         ensures width { place self.old (k - 1) + result ≡ place self.old k }
-    {
-        self.row_len(k)
-    }
-
-    /// How many hulls the row of cell `k` has.
-    pub(crate) fn row_len(&self, k: u32) -> usize
-        requires { IsRow k self.now }
-        ensures { place self.now (k - 1) + result ≡ place self.now k }
     {
         let (from, to) = self.bounds(k, 1);
         to - from

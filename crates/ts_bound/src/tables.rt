@@ -1,17 +1,24 @@
 //! The tables of a box.
 
-ghost use Rattle.std.specs.Prelude.{◌≡◌, ◌+◌, ◌*◌, ◌-◌, ◌<◌, ◌≤◌, IfOk, IfSome, IsSome, [], length, set};
+ghost use Rattle.std.specs.Prelude.{◌≡◌, ◌-◌, ◌≤◌, IfOk, IfSome, IsSome, length, set};
 ghost use Rattle.ts_base.specs.Windows.{LooksInside};
-ghost use Rattle.ts_bound.specs.HullTables.{backward_table, forward_table, row_of};
-ghost use Rattle.ts_bound.specs.NextRow.{RowStands, next_row};
+ghost use Rattle.ts_bound.specs.AnyRows.{form_sides, viewed};
+ghost use Rattle.ts_bound.specs.BoxRows.{AreRows};
+ghost use Rattle.ts_bound.specs.HullTables.{backward_table, forward_table};
+ghost use Rattle.ts_bound.specs.PlainRows.{IsPlain, place_by, table_by};
+ghost use Rattle.ts_bound.specs.Reading.{cells_read};
+ghost use Rattle.ts_bound.specs.RowStacks.{hulls_in};
 ghost use Rattle.ts_bound.specs.Rows.{IsRow, row_at};
 ghost use Rattle.ts_bound.specs.TermSpans.{LooksIn, automata_of};
-ghost use Rattle.ts_domain.specs.BoxSeries.{IsCell, cell_of};
 ghost use Rattle.ts_glue.specs.Machines.{forward_of, pair_of, reverse_of, window_of};
+ghost use Rattle.ts_sweep.specs.Sides.{BothEnds};
 
+use crate::any_row::{AnyView, Form};
 use crate::looks::ends;
-use crate::row::fill_row;
-use crate::start::fill_start;
+use crate::plain_rows::write_row;
+use crate::reading::{Direction, Reading};
+use crate::row_stack::RowStack;
+use crate::rows::make_rows;
 use crate::table::HullTable;
 use std::alloc::Global;
 use ts_automaton::Automaton;
@@ -25,7 +32,7 @@ pub fn forward(alloc: Global, m: &Machine, cells: &Boxed) -> Result<HullTable, M
     requires { LooksIn (automata_of m.now) cells.now.present }
     ensures { IfOk result (λ t. t ≡ forward_table (forward_of m.now) (window_of m.now) cells.now.present) }
 {
-    from_first(alloc, m.forward(), m.window(), cells)
+    table_of(alloc, m.forward(), m.window(), cells, Direction::FromFirst)
 }
 
 /// The hulls of a box for the machine's reverse automaton, which reads these cells from the last to the first. Only for
@@ -37,99 +44,68 @@ pub fn backward(alloc: Global, m: &Machine, cells: &Boxed) -> Result<HullTable, 
         (λ b. t ≡ backward_table b (window_of m.now) cells.now.present)) }
 {
     match m.reverse() {
-        Some(reverse) => from_last(alloc, reverse, m.window(), cells),
+        Some(reverse) => table_of(alloc, reverse, m.window(), cells, Direction::FromLast),
         None => unreachable!(),
     }
 }
 
-/// The rows from the first cell on.
-pub(crate) fn from_first(
+/// The hulls of a box for an automaton that reads the cells in this order. The rows are those that a search makes,
+/// with both ends of each register.
+pub(crate) fn table_of(
     alloc: Global,
     a: &Automaton,
     window: Option<Range>,
     cells: &Boxed,
+    direction: Direction,
 ) -> Result<HullTable, Memory>
     requires { LooksInside (length cells.now.present) window }
-    ensures { IfOk result (λ t. t ≡ forward_table a.now window cells.now.present) }
+    ensures { IfOk result (λ t. t ≡ table_by direction a.now window cells.now.present) }
 {
+    let reading = Reading {
+        cells,
+        window,
+        direction,
+    };
+    let rows = all_rows(alloc, a, reading)?;
     let mut table = HullTable::empty(alloc, cells, window, a.states())?;
     let (first, last) = ends(window, cells.cells());
-    if last == 0 {
-        return Ok(table);
-    }
-    start_at(&mut table, a, cells, first);
-    for k in first..last {
-        step_on(&mut table, a, cells, k);
+    for k in first - 1..last {
+        let i = place_of(direction, first, last, k + 1);
+        put_row(&mut table, k + 1, &rows.row(i), a.states());
     }
     Ok(table)
 }
 
-/// The rows from the last cell back.
-pub(crate) fn from_last(
-    alloc: Global,
-    a: &Automaton,
-    window: Option<Range>,
-    cells: &Boxed,
-) -> Result<HullTable, Memory>
-    requires { LooksInside (length cells.now.present) window }
-    ensures { IfOk result (λ t. t ≡ backward_table a.now window cells.now.present) }
+/// The rows at all cells that are read.
+fn all_rows(alloc: Global, a: &Automaton, reading: Reading<'_>) -> Result<RowStack, Memory>
+    ensures rows { IfOk result (λ s. AreRows a.now (cells_read reading.entry) s) }
+    ensures all { IfOk result (λ s. length (cells_read reading.entry) ≤ length s.known) }
+    ensures both { IfOk result (λ s. form_sides s.planned.form ≡ BothEnds) }
 {
-    let mut table = HullTable::empty(alloc, cells, window, a.states())?;
-    let (first, last) = ends(window, cells.cells());
-    if last == 0 {
-        return Ok(table);
-    }
-    start_at(&mut table, a, cells, last);
-    let mut k = last;
-    while k > first {
-        k -= 1;
-        step_back(&mut table, a, cells, k);
-    }
-    Ok(table)
+    let form = if a.wide() { Form::Wide } else { Form::Narrow };
+    let mut rows = RowStack::new(alloc, a, form);
+    make_rows(alloc, &mut rows, a, reading, reading.count())?;
+    Ok(rows)
 }
 
-/// The row of cell `k`, where runs start.
-fn start_at(table: &mut HullTable, a: &Automaton, cells: &Boxed, k: u32)
+/// At which place cell `k` is read, counted from 0, where it is one of those from the first to the last.
+fn place_of(direction: Direction, first: u32, last: u32, k: u32) -> usize
+    requires low { first ≤ k }
+    requires high { k ≤ last }
+    ensures { result ≡ place_by direction first last k }
+{
+    match direction {
+        Direction::FromFirst => (k - first) as usize,
+        Direction::FromLast => (last - k) as usize,
+    }
+}
+
+/// Writes a row with both ends of each register into the table, as that of cell `k`.
+fn put_row(table: &mut HullTable, k: u32, view: &AnyView<'_>, states: u8)
     requires row { IsRow k table.old }
-    requires cell { IsCell k cells.now }
-    requires size { length (row_at k table.old) ≡ length (cell_of k cells.now) * length a.now.states }
-    ensures { table.new ≡ set table.old (k - 1) (row_of a.now [] (cell_of k cells.now)) }
+    requires plain { IsPlain states (viewed view.now) }
+    requires len { length (row_at k table.old) ≡ length (hulls_in states (viewed view.now)) }
+    ensures { table.new ≡ set table.old (k - 1) (hulls_in states (viewed view.now)) }
 {
-    fill_start(a, cells.cell(k), table.row_mut(k));
-}
-
-/// The row of cell `k + 1` from that of cell `k`.
-fn step_on(table: &mut HullTable, a: &Automaton, cells: &Boxed, k: u32)
-    requires first { 1 ≤ k }
-    requires row { k + 1 ≤ length table.old }
-    requires cell { k + 1 ≤ length cells.now.present }
-    requires fits { k + 1 < 4294967296 }
-    requires before { length (row_at k table.old) ≡ length (cell_of k cells.now) * length a.now.states }
-    requires next { length (row_at (k + 1) table.old) ≡ length (cell_of (k + 1) cells.now) * length a.now.states }
-    requires kinds { RowStands a.now (cell_of k cells.now) (row_at k table.old) }
-    ensures { table.new ≡ set table.old k
-        (next_row a.now (cell_of k cells.now) (row_at k table.old) (cell_of (k + 1) cells.now)) }
-{
-    let len = table.row_len(k);
-    let both = table.both_mut(k);
-    let (before, next) = both.split_at_mut(len);
-    fill_row(a, cells.cell(k), before, cells.cell(k + 1), next);
-}
-
-/// The row of cell `k` from that of cell `k + 1`.
-fn step_back(table: &mut HullTable, a: &Automaton, cells: &Boxed, k: u32)
-    requires first { 1 ≤ k }
-    requires row { k + 1 ≤ length table.old }
-    requires cell { k + 1 ≤ length cells.now.present }
-    requires fits { k + 1 < 4294967296 }
-    requires before { length (row_at (k + 1) table.old) ≡ length (cell_of (k + 1) cells.now) * length a.now.states }
-    requires next { length (row_at k table.old) ≡ length (cell_of k cells.now) * length a.now.states }
-    requires kinds { RowStands a.now (cell_of (k + 1) cells.now) (row_at (k + 1) table.old) }
-    ensures { table.new ≡ set table.old (k - 1)
-        (next_row a.now (cell_of (k + 1) cells.now) (row_at (k + 1) table.old) (cell_of k cells.now)) }
-{
-    let len = table.row_len(k);
-    let both = table.both_mut(k);
-    let (next, before) = both.split_at_mut(len);
-    fill_row(a, cells.cell(k + 1), before, cells.cell(k), next);
+    write_row(view, states, table.row_mut(k));
 }

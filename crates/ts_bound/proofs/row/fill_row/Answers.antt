@@ -2,7 +2,7 @@ use Rattle.std.proofs.Common.{◌≡◌, length, replicate, rules, sym, ap, ◌�
 use Rattle.std.proofs.lemmas.List.{places}
 use Rattle.ts_hull.specs.Hulls.{hull_of}
 use Rattle.ts_hull.specs.Sweeps.{with_state}
-use Rattle.ts_bound.proofs.Starts.{all_none}
+use Rattle.ts_bound.proofs.PutLaws.{all_none}
 use Rattle.ts_bound.proofs.SweptRows.{states_begun, states_more, states_done, states_next}
 use Rattle.ts_bound.proofs.row.fill_row.Goals as goal
 
@@ -19,7 +19,8 @@ pub take_state-requires-clause-next : goal.take_state-requires-clause-next
 take_state-requires-clause-next c =
     let filled : c.fill.new.self ≡ replicate (length c.args.next.now) c.none.result = search (rules, places) in
     let next = states_next c.args.a.now c.args.before_values.now c.args.before.now c.args.values.now c.loop-q.q c.fill.new.self c.loop-q.next
-    (c.fill.ensures.len ∙ c.requires.next) (all_none (length c.args.next.now) c.none.result c.fill.new.self filled (ap hull_of c.none.ensures)) c.loop-q.invariant in
+    (c.fill.ensures.len ∙ c.requires.next) (all_none (length c.args.next.now) c.none.result c.fill.new.self filled (ap hull_of c.none.ensures))
+    c.loop-q.invariant in
     (next.0, next.1 ∙ ap (λ z. length z * length c.args.a.now.states) (sym c.of-2.ensures))
 
 pub loop-q-preserved : goal.loop-q-preserved
@@ -34,5 +35,6 @@ pub returns : goal.returns
 returns c =
     let filled : c.fill.new.self ≡ replicate (length c.args.next.now) c.none.result = search (rules, places) in
     states_done c.args.a.now c.args.before_values.now c.args.before.now c.args.values.now c.loop-q.q c.fill.new.self c.loop-q.next
-    c.states-q-end.ensures.rules c.requires.before (c.fill.ensures.len ∙ c.requires.next) (all_none (length c.args.next.now) c.none.result c.fill.new.self filled (ap hull_of c.none.ensures))
+    c.states-q-end.ensures.rules c.requires.before (c.fill.ensures.len ∙ c.requires.next)
+    (all_none (length c.args.next.now) c.none.result c.fill.new.self filled (ap hull_of c.none.ensures))
     (omega (arith, c.loop-q-test.false, c.loop-q.auto.q-end, c.states-q-end.ensures.count)) c.loop-q.invariant
