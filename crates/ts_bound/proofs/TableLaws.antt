@@ -24,7 +24,7 @@ use Rattle.ts_automaton.proofs.KindLaws.{spans_typed}
 use Rattle.ts_automaton.proofs.StepLaws.{start_stands, spans_have, move_keeps}
 use Rattle.ts_base.specs.Signature.{letter_of}
 use Rattle.ts_hull.specs.Hulls.{hull_of, none, hull_of_both}
-use Rattle.ts_bound.specs.NextRow.{Source, source, standing_at, sources_from, sources, hull_from, next_hull, next_hulls, next_row, states_of}
+use Rattle.ts_bound.specs.NextRow.{Source, source, standing_at, sources_from, sources, hull_from, next_hull, next_hulls, next_row, states_of, RowStands}
 use Rattle.ts_bound.specs.HullTables.{start_hull, hull_at, hulls_at, row_of, rows_behind, backward_rows}
 use Rattle.ts_domain.proofs.Sets.{all_append}
 
@@ -185,6 +185,12 @@ module _ (b : Body) (rules : IsTrue (is_automaton b)) where
           ))
       go false e = inl refl
   hull_kept (us ∷ before) v q = kept_all b q none _ (inl refl) (kept_givens _ (all_stand before us (hull_kept before)) v q)
+
+  pub row_stands : (before : List (List ℤ)) (us : List ℤ) → RowStands b us (row_of b before us)
+  unfolding row_of hulls_at
+  row_stands before us =
+      subst (AllByRecursion (λ s. HullStands b (standing_at s))) (sym (sources_of (hull_at b before) (length b.states) us))
+      (all_stand before us (hull_kept before))
 
 -- the rows of a table
 

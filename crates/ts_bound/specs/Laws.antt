@@ -1,4 +1,4 @@
--- What the layers above know of spans, in which nothing speaks of hulls; and of rows that were lent.
+-- What the layers above know of spans, in which nothing speaks of hulls; and of rows of hulls.
 use Rattle.std.specs.Prelude.{◌≡◌, ◌≤◌, ℕ, ◌+◌, ◌-◌, ℤ, IsTrue, IfSome, Contains, List, [], ◌∷◌, ◌++◌, length, map, set}
 use Rattle.ts_base.specs.Limits.{most_cells}
 use Rattle.ts_base.specs.Windows.{looked_at}
@@ -13,7 +13,8 @@ use Rattle.ts_domain.specs.BoxSeries.{InBox, IsBox}
 use Rattle.ts_glue.specs.Pairs.{Pair}
 use Rattle.ts_glue.specs.Glued.{Local}
 use Rattle.ts_glue.specs.Rules.{keeps_rules}
-use Rattle.ts_bound.specs.HullTables.{values_at}
+use Rattle.ts_bound.specs.HullTables.{row_of, values_at}
+use Rattle.ts_bound.specs.NextRow.{RowStands}
 use Rattle.ts_bound.specs.Rows.{IsRow, row_at, with_written}
 use Rattle.ts_bound.specs.TermSpans.{Automata, LooksIn, IsUsable, term_span, value_span}
 
@@ -84,3 +85,9 @@ TwoWrittenRowsAreSet =
     (rows : List (List Hull)) (k : ℕ) (first second : List Hull) → 1 ≤ k → k + 1 ≤ length rows →
     length first ≡ length (row_at k rows) → length second ≡ length (row_at (k + 1) rows) →
     with_written rows (k - 1) (first ++ second) ≡ set (set rows (k - 1) first) k second
+
+-- each hull of the row of a cell is none or has the kinds of its state, as a row made of it needs
+abbrev pub RowsStand : Type 0
+RowsStand =
+    (b : Body) → IsTrue (is_automaton b) → (before : List (List ℤ)) (values : List ℤ) →
+    RowStands b values (row_of b before values)

@@ -1,6 +1,16 @@
-//! Laws of spans and of lent rows, for the layers above. Each is a statement of `specs/Laws` that the checker has proved.
+//! Laws of spans and of rows, for the layers above. Each is a statement of `specs/Laws` that the checker has proved.
 
-ghost use Rattle.ts_bound.specs.Laws.{AreAutomata, SmallerBoxesAreWithin, SpansHold, SpansStaySingle, TwoWrittenRowsAreSet, ValueSpansAreNarrowed, ValueSpansAreWithin, WrittenRowsAreSet};
+ghost use Rattle.ts_bound.specs.Laws.{
+  AreAutomata,
+  RowsStand,
+  SmallerBoxesAreWithin,
+  SpansHold,
+  SpansStaySingle,
+  TwoWrittenRowsAreSet,
+  ValueSpansAreNarrowed,
+  ValueSpansAreWithin,
+  WrittenRowsAreSet,
+};
 ghost use Rattle.ts_bound.specs.TermSpans.{automata_of};
 
 use ts_glue::Machine;
@@ -28,6 +38,11 @@ pub fn value_spans_are_narrowed()
 /// The span of the box with one value alone at a cell lies in that of the whole box.
 pub fn value_spans_are_within()
     ensures { ValueSpansAreWithin }
+{}
+
+/// Each row of a table is one from which `fill_row` makes the next one.
+pub fn rows_stand()
+    ensures { RowsStand }
 {}
 
 /// A table in which a lent row was written has that row in its place, and every other one as it was.
