@@ -254,6 +254,53 @@ up_to_place (x ∷ values) zero (suc p) v limit rises below e at =
 up_to_place (x ∷ values) (suc i) zero v limit rises below e at = absurd (omega (arith, below))
 up_to_place (x ∷ values) (suc i) (suc p) v limit rises below e at = up_to_place values i p v limit rises.1 (omega (arith, below)) e at
 
+pub after_place : (values : List ℤ) (i p : ℕ) (v limit : ℤ) → IsRising values → p + 1 ≤ i → slice_get values i ≡ Some v →
+    slice_get values p ≡ Some limit → limit <ℤ v
+unfolding IsRising
+after_place [] i p v limit rises after e at = absurd (none-some v e)
+after_place (x ∷ values) zero p v limit rises after e at = absurd (omega (arith, after))
+after_place (x ∷ values) (suc i) zero v limit rises after e at =
+    let same : x ≡ limit = same_Some x limit at in
+    let more = each_contains (λ y. x <ℤ y) values v rises.0 (at_contains values i v e) in omega (arith, ints, same, more)
+after_place (x ∷ values) (suc i) (suc p) v limit rises after e at =
+    after_place values i p v limit rises.1 (let l = after in omega (arith, l)) e at
+
+-- the values are gone through one by one
+
+abbrev pub AreUpTo : List ℤ → ℕ → ℤ → Type 0
+AreUpTo values count limit = (i : ℕ) (v : ℤ) → i < count → slice_get values i ≡ Some v → v ≤ℤ limit
+
+abbrev pub AreAbove : List ℤ → ℕ → ℤ → Type 0
+AreAbove values count limit = (i : ℕ) (v : ℤ) → count ≤ i → slice_get values i ≡ Some v → limit <ℤ v
+
+pub nothing_before : (values : List ℤ) (limit : ℤ) → AreUpTo values 0 limit
+nothing_before values limit i v l e = absurd (omega (arith, l))
+
+pub one_more_up_to : (values : List ℤ) (count : ℕ) (w limit : ℤ) → AreUpTo values count limit → slice_get values count ≡ Some w → w ≤ℤ limit →
+    AreUpTo values (count + 1) limit
+one_more_up_to values count w limit up at below i v l e = by_place (split i l)
+  where
+    split : (i : ℕ) → i < count + 1 → (i ≡ count) ⊎ (i < count)
+    split i l = grind (arith, l)
+
+    by_place : (i ≡ count) ⊎ (i < count) → v ≤ℤ limit
+    by_place (inl s) =
+        let same : w ≡ v = same_Some w v (sym at ∙ subst (λ n. slice_get values n ≡ Some v) s e) in
+        subst (λ z. z ≤ℤ limit) same below
+    by_place (inr s) = up i v s e
+
+pub all_above : (values : List ℤ) (count : ℕ) (w limit : ℤ) → IsRising values → slice_get values count ≡ Some w → limit <ℤ w → AreAbove values count limit
+all_above values count w limit rises at more i v l e =
+    let no_less = up_to_place values count i w v rises (omega (arith, l)) at e in omega (arith, ints, no_less, more)
+
+pub none_above : (values : List ℤ) (count : ℕ) (limit : ℤ) → length values ≤ count → AreAbove values count limit
+none_above values count limit all i v l e = absurd (past values i (omega (arith, all, l)) e)
+  where
+    past : (values : List ℤ) (i : ℕ) → length values ≤ i → slice_get values i ≡ Some v → ⊥
+    past [] i l e = none-some v e
+    past (x ∷ values) zero l e = omega (arith, l)
+    past (x ∷ values) (suc i) l e = past values i (omega (arith, l)) e
+
 module _ (rs : List Require) (term : ℕ) (a : Automata) (b : Box) (k : ℕ) (limit : ℤ) (spared : IsSparedAt rs term a b k limit) (usable : IsUsableOf a k b)
     (many : 2 ≤ length (values_at k b)) (rises : IsRising (values_at k b)) (within : AllByRecursion WithinLimits (values_at k b)) where
   pub left_above : (n : ℕ) → n ≤ length (values_at k b) → ((i : ℕ) (v : ℤ) → i < n → slice_get (values_at k b) i ≡ Some v → v ≤ℤ limit) →

@@ -1,6 +1,6 @@
 //! Values that may be taken out of their cells.
 
-ghost use Rattle.std.specs.Prelude.{◌≡◌, ◌+◌, ◌<◌, ◌≤◌, ◌≤ℤ◌, ℕ, ℤ, IfOk, Some, length, map, option_map, slice_get};
+ghost use Rattle.std.specs.Prelude.{◌≡◌, ◌+◌, ◌<◌, ◌≤◌, ◌<ℤ◌, ◌≤ℤ◌, ℕ, ℤ, IfOk, Some, length, map, option_map, slice_get};
 ghost use Rattle.std.specs.List.{AllByRecursion};
 ghost use Rattle.ts_base.specs.Limits.{too_many};
 ghost use Rattle.ts_bound.specs.TermSpans.{IsUsable, LooksIn, automata_of};
@@ -308,18 +308,23 @@ fn drop_in_cell(
     None
 }
 
-/// How many values come first that are at most the limit, as far as it pays to look: none where it isn't one of them.
+/// How many values come first that are at most the limit. It may lie in a gap between two of them.
 fn count_up_to(values: &Domain, limit: i64) -> u64
     ensures to { result ≤ length values.now }
     ensures below { (i : ℕ) (v : ℤ) → i < result → slice_get values.now i ≡ Some v → v ≤ℤ limit }
+    ensures above { (i : ℕ) (v : ℤ) → result ≤ i → slice_get values.now i ≡ Some v → limit <ℤ v }
 {
     // its values rise, and their number fits
-    values.size();
+    let size = values.size();
     if values.contains(limit) {
-        values.place_of(limit) + 1
-    } else {
-        0
+        return values.place_of(limit) + 1;
     }
+    for i in 0..size {
+        if limit < values.nth(i) {
+            return i;
+        }
+    }
+    size
 }
 
 /// The drop of the least value of cell `k` by a requirement that is refuted whatever value the cell has.
