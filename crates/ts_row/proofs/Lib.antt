@@ -6,6 +6,7 @@ pub mod Equals
 pub mod Reached
 pub mod ShapeLaws
 pub mod NextShapes
+pub mod PairShapes
 pub mod PlanLaws
 pub mod Flat
 pub mod StartLaws

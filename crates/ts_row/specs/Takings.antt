@@ -1,5 +1,5 @@
 -- A move of a state that is taken in.
-use Rattle.std.specs.Prelude.{◌≡◌, ℕ, true, ℤ, pos, List, length, get_or}
+use Rattle.std.specs.Prelude.{◌≡◌, ℕ, ◌<◌, true, ℤ, pos, List, length, get_or}
 use Rattle.ts_automaton.specs.declared.regs.Hull.{Hull}
 use Rattle.ts_automaton.specs.Body.{Move}
 use Rattle.ts_hull.specs.Hulls.{hull_of_both}
@@ -13,8 +13,11 @@ use Rattle.ts_row.specs.Rows.{gives_to, lanes_of, nothing, IsColumn}
 use Rattle.ts_sweep.specs.declared.packed.PackedHull.{PackedHull}
 use Rattle.ts_sweep.specs.Columns.{IsMoved, hull_at}
 use Rattle.ts_sweep.specs.Covers.{IsCoverOf}
+use Rattle.ts_sweep.specs.declared.pair_move.Emission.{Emission}
+use Rattle.ts_sweep.specs.Lanes.{some_lanes}
 use Rattle.ts_sweep.specs.Moves.{of_width}
-use Rattle.ts_sweep.specs.Sides.{has_wide, seen_hull, sides}
+use Rattle.ts_sweep.specs.PairMoves.{IsEmitted}
+use Rattle.ts_sweep.specs.Sides.{as_read, has_wide, seen_hull, sides}
 
 -- how many values a cell has, and the value at a place
 abbrev pub count_in : Cell → ℕ
@@ -53,3 +56,9 @@ taken_to n t on m w u =
 -- what two moves give to it
 abbrev pub two_taken_to : (n : ℕ) → Between n → On → Move → On → Move → ℤ → ℕ → Hull
 two_taken_to n t on m on' m' w u = hull_of_both (taken_to n t on m w u) (taken_to n t on' m' w u)
+
+-- an emission serves each of so many hulls of a column in which registers lie
+abbrev pub AreEmitted : (n : ℕ) → Emission → ℕ → List (PackedHull n) → Type 0
+AreEmitted n by count hulls =
+    (i : ℕ) → i < count → some_lanes (lanes_of n (get_or hulls i (nothing n))) ≡ true →
+    IsEmitted (sides n) (has_wide n) by (as_read (sides n) (lanes_of n (get_or hulls i (nothing n))))

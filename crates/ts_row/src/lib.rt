@@ -19,6 +19,7 @@ mod cell;
 mod clamped;
 mod next_shapes;
 mod packed_row;
+mod pair_shapes;
 mod plan;
 mod row_steps;
 mod row_view;

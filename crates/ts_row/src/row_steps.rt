@@ -18,6 +18,7 @@ ghost use Rattle.ts_sweep.specs.Sides.{has_wide, lane_count, seen_hull, sides};
 use crate::between::{Between, On};
 use crate::cell::Cell;
 use crate::packed_row::PackedRow;
+use crate::pair_shapes::take_by_pairs;
 use crate::plan::{Equals, Plan, Shape, StatePlan, turn};
 use crate::row_view::RowView;
 use crate::shapes::take_shape;
@@ -28,7 +29,6 @@ use ts_sweep::column::Dense;
 use ts_sweep::cover::cover_of;
 use ts_sweep::here::take_equal;
 use ts_sweep::packed::PackedHull;
-use ts_sweep::pairs::take_pairs;
 use ts_sweep::swept::take_swept;
 
 /// A move, with its shape and the letter on which it is taken in.
@@ -116,15 +116,7 @@ fn take_turn<const N: usize>(m: Planned<'_>, t: &Between<'_, N>, next: &mut [Pac
     if take_tree(m, t, next) {
         return;
     }
-    take_pairs::<PackedHull<N>, Cell<'_>, Cell<'_>>(
-        m.turn,
-        m.on.letter,
-        m.on.twin,
-        t.values,
-        t.before,
-        t.next_values,
-        next,
-    );
+    take_by_pairs(m.turn, m.on, t, next);
 }
 
 /// Takes a move into the row, at the state that it leads to.

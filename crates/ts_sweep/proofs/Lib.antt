@@ -26,3 +26,4 @@ pub mod Equals
 pub mod SmallLanes
 pub mod Unpacked
 pub mod PairSteps
+pub mod PairLaws

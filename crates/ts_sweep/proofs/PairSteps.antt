@@ -61,10 +61,12 @@ beside_packs s false p f e h x y alone pack zero = sym (ap (λ g. span_in g h x 
 -- and of a hull in lanes what is seen of what its expressions make of it
 pub moved_some : (s : Sides) (m : Move) (n : ℕ) (xs zs : List ℤ) (x y : ℤ) (c e d f r : Ends) → (s ≡ BothEnds) ⊎ (is_wide n ≡ false) →
     6 ≤ n → rests is_zero (is_wide n) m.to ≡ true → IsMoveFor s m → IsPacked n xs →
-    some_lanes xs ≡ true → IsSmall x → IsSmall y → c ≡ tree_value m.to.c (as_read s xs) x y →
-    e ≡ beside (is_wide n) (tree_value m.to.e (as_read s xs) x y) →
-    d ≡ tree_value m.to.d (as_read s xs) x y → f ≡ beside (is_wide n) (tree_value m.to.f (as_read s xs) x y) →
-    r ≡ tree_value m.to.r (as_read s xs) x y → zs ≡ with_all n xs (all_kept s (of_name (each c e d f r))) →
+    some_lanes xs ≡ true → IsSmall x → IsSmall y →
+    kept_ends s c ≡ kept_ends s (tree_value m.to.c (as_read s xs) x y) →
+    kept_ends s e ≡ kept_ends s (beside (is_wide n) (tree_value m.to.e (as_read s xs) x y)) →
+    kept_ends s d ≡ kept_ends s (tree_value m.to.d (as_read s xs) x y) →
+    kept_ends s f ≡ kept_ends s (beside (is_wide n) (tree_value m.to.f (as_read s xs) x y)) →
+    kept_ends s r ≡ kept_ends s (tree_value m.to.r (as_read s xs) x y) → zs ≡ with_all n xs (all_kept s (of_name (each c e d f r))) →
     IsPacked n zs × (unpacked zs ≡ seen_hull s (after_move m (unpacked xs) x y))
 moved_some s m n xs zs x y c e d f r alone big width suits p some this next ec ee ed ef er is =
     let is_some = not_nothing n xs some p in
@@ -76,13 +78,13 @@ moved_some s m n xs zs x y c e d f r alone big width suits p some this next ec e
     let zero : is_wide n ≡ false → (is_zero m.to.e ≡ true) × (is_zero m.to.f ≡ true) = both_zero (is_wide n) (is_zero m.to.e) (is_zero m.to.f) width in
     let packs : (k : Name) → IsPackAt (place n k) (kept k) (value k) =
     by_names (λ k. IsPackAt (place n k) (kept k) (value k))
-    (subst (λ z. IsPackOf (kept_ends s z) (value C)) (sym ec) (kept_packs s _ _ (tree m.to.c suits.0)))
-    (subst (λ z. IsPackAt (place n E) (kept_ends s z) (value E)) (sym ee)
+    (subst (λ z. IsPackOf z (value C)) (sym ec) (kept_packs s _ _ (tree m.to.c suits.0)))
+    (subst (λ z. IsPackAt (place n E) z (value E)) (sym ee)
     (beside_packs s (is_wide n) 1 m.to.e _ h x y alone (tree m.to.e) (λ w. (zero w).0)))
-    (subst (λ z. IsPackOf (kept_ends s z) (value D)) (sym ed) (kept_packs s _ _ (tree m.to.d suits.1)))
-    (subst (λ z. IsPackAt (place n F) (kept_ends s z) (value F)) (sym ef)
+    (subst (λ z. IsPackOf z (value D)) (sym ed) (kept_packs s _ _ (tree m.to.d suits.1)))
+    (subst (λ z. IsPackAt (place n F) z (value F)) (sym ef)
     (beside_packs s (is_wide n) 3 m.to.f _ h x y alone (tree m.to.f) (λ w. (zero w).1)))
-    (subst (λ z. IsPackOf (kept_ends s z) (value R)) (sym er) (kept_packs s _ _ (tree m.to.r suits.2))) in (
+    (subst (λ z. IsPackOf z (value R)) (sym er) (kept_packs s _ _ (tree m.to.r suits.2))) in (
       subst (IsPacked n) (sym is) (inr (all_packed n xs kept value big is_some packs)),
       ap unpacked is ∙ all_unpacked n xs kept value big is_some packs
           ∙ ap (seen_hull s) (sym (after_is m h x y true (some_unpacked n xs big is_some))),
@@ -123,7 +125,7 @@ pub record ArePaired {X : Type 0} (s : Sides) (lanes : X → List ℤ) (nothing 
       (seen_hull s (gives m l twin count v (hull_at lanes nothing before) (w i)))
   pub rest : (i : ℕ) → j ≤ i → get_or new i nothing ≡ get_or old i nothing
 
-before_or : (i j : ℕ) → i < suc j → (i < j) ⊎ (i ≡ j)
+pub before_or : (i j : ℕ) → i < suc j → (i < j) ⊎ (i ≡ j)
 before_or i j h = grind arith
 
 same_or : (i j : ℕ) → (i ≡ j) ⊎ (i ≡ j → ⊥)

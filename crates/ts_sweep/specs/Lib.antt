@@ -17,6 +17,7 @@ pub mod Moves
 pub mod MoveLaws
 pub mod Covers
 pub mod Trees
+pub mod PairMoves
 pub mod TreeLaws
 pub mod Here
 pub mod HereLaws

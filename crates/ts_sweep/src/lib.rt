@@ -35,6 +35,7 @@ pub mod hull;
 pub mod moves;
 pub mod operator;
 pub mod packed;
+pub mod pair_move;
 pub mod pairs;
 pub mod part;
 pub mod row;

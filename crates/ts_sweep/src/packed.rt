@@ -59,7 +59,7 @@ pub trait Packed: Hull {
     ghost use Rattle.ts_sweep.specs.declared.packed.Name.{Name};
     ghost use Rattle.ts_sweep.specs.Lanes.{greater_of, no_lanes, some_lanes};
     ghost use Rattle.ts_sweep.specs.Packed.{IsPacked, ends_in, is_wide, name_ends, place, unpacked, with_ends_in};
-    ghost use Rattle.ts_sweep.specs.Sides.{BothEnds, Sides, as_read, kept_ends, seen_hull};
+    ghost use Rattle.ts_sweep.specs.Sides.{BothEnds, Sides, as_read, kept_ends, read_ends, seen_hull};
 
     /// Which ends it has.
     ghost sides: { Sides };
@@ -90,6 +90,10 @@ pub trait Packed: Hull {
         requires registers { 6 ≤ count }
         ensures placed { result ≡ ends_in (as_read sides (lanes self.now)) (place count register) }
         ensures value { result ≡ name_ends (as_read sides (lanes self.now)) register };
+
+    /// Ends as they are read from a hull: one that it hasn't is 0.
+    fn read(e: Ends) -> Ends
+        ensures { result ≡ read_ends sides e };
 
     /// The hull with other ends of a register, if it has lanes for it.
     fn with(self, register: Name, e: Ends) -> Self
@@ -311,6 +315,23 @@ impl<const N: usize> Packed for PackedHull<N> {
     #[inline(always)]
     fn ends(&self, register: Name) -> Ends {
         ends_of::<N>(&self.at, place::<N>(register))
+    }
+
+    #[inline(always)]
+    fn read(e: Ends) -> Ends {
+        if N == UPPER {
+            Ends {
+                below: 0,
+                above: e.above,
+            }
+        } else if N == LOWER {
+            Ends {
+                below: e.below,
+                above: 0,
+            }
+        } else {
+            e
+        }
     }
 
     #[inline(always)]

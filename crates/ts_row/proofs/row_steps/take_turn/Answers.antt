@@ -20,4 +20,4 @@ returns-then-take_tree-clause-moved g c =
 pub returns-clause-moved : goal.returns-clause-moved
 returns-clause-moved g c =
     moved_from _ c.args.t.now c.args.m.on (move_of c.args.m.turn.now) _ _ _
-    (c.take_tree.ensures.kept c.if-take_tree.false ∙ c.take_shape.ensures.kept c.if-take_shape.false) c.take_pairs.ensures.taken
+    (c.take_tree.ensures.kept c.if-take_tree.false ∙ c.take_shape.ensures.kept c.if-take_shape.false) c.take_by_pairs.ensures.moved

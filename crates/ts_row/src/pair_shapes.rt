@@ -1,0 +1,264 @@
+//! Moves over pairs of values whose operators are known, so that the compiler makes a loop for each.
+
+ghost use Rattle.std.specs.Prelude.{◌≡◌, IfSome, ℤ, List, false, true};
+ghost use Rattle.ts_automaton.specs.Body.{move_of};
+ghost use Rattle.ts_automaton.specs.Registers.{rests};
+ghost use Rattle.ts_automaton.specs.declared.expr.Atom.TheVariants.{C, Next, R, This};
+ghost use Rattle.ts_automaton.specs.declared.expr.Operator.TheVariants.{Fold};
+ghost use Rattle.ts_automaton.specs.Formula.{Join, Leaf, formula, is_zero};
+ghost use Rattle.ts_base.specs.declared.op.Op.TheVariants.{Add};
+ghost use Rattle.ts_row.specs.Rows.{IsColumn};
+ghost use Rattle.ts_row.specs.Takings.{AreEmitted, HasMoved, IsCovered, count_in};
+ghost use Rattle.ts_sweep.specs.declared.packed.Name.TheVariants.{R as NameR};
+ghost use Rattle.ts_sweep.specs.Covers.{IsBounded};
+ghost use Rattle.ts_sweep.specs.Fronts.{IsMoveFor};
+ghost use Rattle.ts_sweep.specs.Packed.{AreWithin, name_ends};
+ghost use Rattle.ts_sweep.specs.PairMoves.{
+  emission,
+  held_atom,
+  open_atom,
+  pair_cells,
+  pair_found,
+  pair_op,
+  start_atom,
+};
+ghost use Rattle.ts_sweep.specs.Sides.{has_wide, sides};
+
+use crate::between::{Between, On};
+use crate::cell::Cell;
+use ts_automaton::{Atom, Expr, Op, Turn};
+use ts_sweep::cover::Cover;
+use ts_sweep::front::{Front, Register};
+use ts_sweep::packed::{Packed, PackedHull};
+use ts_sweep::pair_move::{AnyMove, Emission, are_begun};
+use ts_sweep::pairs::take_pairs;
+
+/// Whether an expression is a word.
+fn is_word(e: &Expr, word: Atom) -> bool
+    ensures { result ≡ true → formula e.now ≡ Leaf word }
+{
+    match (e, word) {
+        (Expr::C, Atom::C) | (Expr::E, Atom::E) | (Expr::D, Atom::D) => true,
+        (Expr::F, Atom::F) | (Expr::R, Atom::R) | (Expr::Zero, Atom::Zero) => true,
+        (Expr::This, Atom::This) | (Expr::Next, Atom::Next) => true,
+        (Expr::NegInf, Atom::NegInf) | (Expr::PosInf, Atom::PosInf) => true,
+        _ => false,
+    }
+}
+
+/// Whether two expressions are a register, joined with the cell by an operator, and the next cell.
+fn is_pair_of(a: &Expr, b: &Expr, greatest: bool, register: Atom) -> bool
+    ensures { result ≡ true → (formula a.now ≡ Join (Fold (pair_op greatest)) (Leaf register) (Leaf This))
+        × (formula b.now ≡ Leaf Next) }
+{
+    match a {
+        Expr::Max(c, d) => greatest
+            && is_word(c, register)
+            && is_word(d, Atom::This)
+            && is_word(b, Atom::Next),
+        Expr::Min(c, d) => !greatest
+            && is_word(c, register)
+            && is_word(d, Atom::This)
+            && is_word(b, Atom::Next),
+        _ => false,
+    }
+}
+
+/// Whether an expression joins a register with the cell and the next one.
+fn is_pair(e: &Expr, greatest: bool, register: Atom) -> bool
+    ensures { result ≡ true → formula e.now ≡ pair_cells (pair_op greatest) register }
+{
+    match e {
+        Expr::Max(a, b) => greatest && is_pair_of(a, b, true, register),
+        Expr::Min(a, b) => !greatest && is_pair_of(a, b, false, register),
+        _ => false,
+    }
+}
+
+/// Whether an expression is what D, the cell and the next one give.
+fn is_pair_found(e: &Expr, wide: bool, greatest: bool) -> bool
+    ensures value { result ≡ true → formula e.now ≡ pair_found wide greatest }
+    ensures greatest { result ≡ true → wide ≡ true → greatest ≡ true }
+{
+    match e {
+        Expr::Sub(a, b) => wide
+            && greatest
+            && is_pair(a, true, Atom::D)
+            && is_pair(b, false, Atom::F),
+        _ => !wide && is_pair(e, greatest, Atom::D),
+    }
+}
+
+/// Whether two expressions are R, and what D, the cell and the next one give.
+fn is_taken(a: &Expr, b: &Expr, wide: bool, greatest: bool) -> bool
+    ensures value { result ≡ true → (formula a.now ≡ Leaf R) × (formula b.now ≡ pair_found wide greatest) }
+    ensures greatest { result ≡ true → wide ≡ true → greatest ≡ true }
+{
+    is_word(a, Atom::R) && is_pair_found(b, wide, greatest)
+}
+
+/// The operator by which an expression joins R with what D, the cell and the next one give.
+fn ranges_of(e: &Expr, wide: bool, greatest: bool) -> Option<Op>
+    ensures { IfSome result (λ o. (formula e.now ≡ Join (Fold o) (Leaf R) (pair_found wide greatest))
+        × (wide ≡ true → greatest ≡ true)) }
+{
+    match e {
+        Expr::Add(a, b) if is_taken(a, b, wide, greatest) => Some(Op::Add),
+        Expr::Max(a, b) if is_taken(a, b, wide, greatest) => Some(Op::Max),
+        Expr::Min(a, b) if is_taken(a, b, wide, greatest) => Some(Op::Min),
+        _ => None,
+    }
+}
+
+/// Whether the expressions of a move but that of R are those of an emission.
+fn is_reset(t: &Turn, wide: bool, greatest: bool) -> bool
+    ensures { result ≡ true → (formula t.now.c ≡ Leaf C) × (formula t.now.e ≡ Leaf (held_atom wide))
+        × (formula t.now.d ≡ Leaf (start_atom greatest)) × (formula t.now.f ≡ Leaf (open_atom wide)) }
+{
+    let start = if greatest { Atom::NegInf } else { Atom::PosInf };
+    let held = if wide { Atom::E } else { Atom::Zero };
+    let open = if wide { Atom::PosInf } else { Atom::Zero };
+    is_word(&t.c, Atom::C) && is_word(&t.e, held) && is_word(&t.d, start) && is_word(&t.f, open)
+}
+
+/// The emission that a move is, if it is one: the operator of its ranges, and whether the greatest cell is taken.
+fn emission_of(t: &Turn, wide: bool) -> Option<(Op, bool)>
+    ensures { IfSome result (λ p. ((move_of t.now).to ≡ emission wide p.0 p.1) × (wide ≡ true → p.1 ≡ true)) }
+{
+    let greatest = is_word(&t.d, Atom::NegInf);
+    let o = ranges_of(&t.r, wide, greatest)?;
+    if is_reset(t, wide, greatest) {
+        Some((o, greatest))
+    } else {
+        None
+    }
+}
+
+/// Whether sums of R and what is found stay small.
+#[inline(always)]
+fn is_plain(ranges: Op, cover: &Cover) -> bool
+    ensures { result ≡ true → ranges ≡ Add → (xs : List ℤ) → IsBounded cover.now xs → AreWithin 1 (name_ends xs NameR) }
+{
+    ranges != Op::Add || Register::<4>.is_fit(true, cover)
+}
+
+/// Takes in an emission.
+#[inline(always)]
+fn emit_as<const N: usize>(by: Emission<'_>, on: On, t: &Between<'_, N>, next: &mut [PackedHull<N>])
+    requires covered { IsCovered N t.now }
+    requires width { rests is_zero (has_wide N) (move_of by.turn.now).to ≡ true }
+    requires suits { IsMoveFor (sides N) (move_of by.turn.now) }
+    requires fit { AreEmitted N by (count_in t.now.values) t.now.before.now }
+    requires next_packed { IsColumn N (count_in t.now.next_values) next.old }
+    ensures packed { IsColumn N (count_in t.now.next_values) next.new }
+    ensures moved { HasMoved N t.now on (move_of by.entry.turn.now) next.old next.new }
+{
+    take_pairs::<PackedHull<N>, Emission<'_>, Cell<'_>, Cell<'_>>(
+        by,
+        on.letter,
+        on.twin,
+        t.values,
+        t.before,
+        t.next_values,
+        next,
+    );
+}
+
+/// An emission whose operators are those given.
+#[inline(always)]
+fn with_operators<'a>(by: Emission<'a>, ranges: Op, greatest: bool) -> Emission<'a>
+    requires ranges { by.ranges ≡ ranges }
+    requires greatest { by.greatest ≡ greatest }
+    ensures { result ≡ by.entry }
+{
+    Emission {
+        turn: by.turn,
+        ranges,
+        greatest,
+    }
+}
+
+/// Takes in an emission: a loop for each operator, with the greatest cells or the least.
+fn emit<const N: usize>(by: Emission<'_>, on: On, t: &Between<'_, N>, next: &mut [PackedHull<N>])
+    requires covered { IsCovered N t.now }
+    requires width { rests is_zero (has_wide N) (move_of by.turn.now).to ≡ true }
+    requires suits { IsMoveFor (sides N) (move_of by.turn.now) }
+    requires fit { AreEmitted N by (count_in t.now.values) t.now.before.now }
+    requires next_packed { IsColumn N (count_in t.now.next_values) next.old }
+    ensures packed { IsColumn N (count_in t.now.next_values) next.new }
+    ensures moved { HasMoved N t.now on (move_of by.entry.turn.now) next.old next.new }
+{
+    match (by.ranges, by.greatest) {
+        (Op::Add, true) => emit_as(with_operators(by, Op::Add, true), on, t, next),
+        (Op::Max, true) => emit_as(with_operators(by, Op::Max, true), on, t, next),
+        (Op::Min, true) => emit_as(with_operators(by, Op::Min, true), on, t, next),
+        (Op::Add, false) => emit_as(with_operators(by, Op::Add, false), on, t, next),
+        (Op::Max, false) => emit_as(with_operators(by, Op::Max, false), on, t, next),
+        (Op::Min, false) => emit_as(with_operators(by, Op::Min, false), on, t, next),
+    }
+}
+
+/// Takes in a move as an emission, if it is one.
+fn take_emission<const N: usize>(
+    turn: &Turn,
+    on: On,
+    t: &Between<'_, N>,
+    next: &mut [PackedHull<N>],
+) -> bool
+    requires covered { IsCovered N t.now }
+    requires width { rests is_zero (has_wide N) (move_of turn.now).to ≡ true }
+    requires suits { IsMoveFor (sides N) (move_of turn.now) }
+    requires next_packed { IsColumn N (count_in t.now.next_values) next.old }
+    ensures packed { IsColumn N (count_in t.now.next_values) next.new }
+    ensures moved { result ≡ true → HasMoved N t.now on (move_of turn.now) next.old next.new }
+    ensures kept { result ≡ false → next.new ≡ next.old }
+{
+    match emission_of(turn, PackedHull::<N>::is_wide()) {
+        Some((ranges, greatest)) => {
+            if is_plain(ranges, t.cover) && are_begun::<PackedHull<N>>(t.before, greatest) {
+                emit(
+                    Emission {
+                        turn,
+                        ranges,
+                        greatest,
+                    },
+                    on,
+                    t,
+                    next,
+                );
+                true
+            } else {
+                false
+            }
+        }
+        None => false,
+    }
+}
+
+/// Takes in a move by pairs of values, if it can't be swept: by a loop for its operators, or else by its expressions.
+pub(crate) fn take_by_pairs<const N: usize>(
+    turn: &Turn,
+    on: On,
+    t: &Between<'_, N>,
+    next: &mut [PackedHull<N>],
+)
+    requires covered { IsCovered N t.now }
+    requires width { rests is_zero (has_wide N) (move_of turn.now).to ≡ true }
+    requires suits { IsMoveFor (sides N) (move_of turn.now) }
+    requires next_packed { IsColumn N (count_in t.now.next_values) next.old }
+    ensures packed { IsColumn N (count_in t.now.next_values) next.new }
+    ensures moved { HasMoved N t.now on (move_of turn.now) next.old next.new }
+{
+    if take_emission(turn, on, t, next) {
+        return;
+    }
+    take_pairs::<PackedHull<N>, AnyMove<'_>, Cell<'_>, Cell<'_>>(
+        AnyMove { turn },
+        on.letter,
+        on.twin,
+        t.values,
+        t.before,
+        t.next_values,
+        next,
+    );
+}
