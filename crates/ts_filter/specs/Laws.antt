@@ -133,8 +133,8 @@ FitIsFormed =
     IsFormed b t
 
 -- with V values in all domains together and n cells, at most V + 1 - n boxes wait at any time
-abbrev pub FewWait : Type 0
-FewWait =
+abbrev pub StepsLeaveFew : Type 0
+StepsLeaveFew =
     (m : ModelParts) (s : Spans) (h : Head) (ls : List TreeLine) (waiting : List Box) (told : ℕ) → IsBox m.cells →
     Steps m s h (m.cells ∷ []) 0 ls waiting told → length waiting + length m.cells ≤ total_of m.cells + 1
 

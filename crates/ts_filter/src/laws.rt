@@ -6,7 +6,7 @@ ghost use Rattle.ts_filter.specs.Laws.{AcceptedHolds, AcceptedIsKept, FailingIsR
 ghost use Rattle.ts_filter.specs.Laws.{LinesGoOn, WholeIsJudged};
 ghost use Rattle.ts_filter.specs.Laws.{DropLeavesOthers, LowerSideFirst, SplitCutsInTwo, ValuesAreSound};
 ghost use Rattle.ts_filter.specs.Laws.{DropLosesNone, HigherBarCutsMore, SinglesAreExact, TestsTell};
-ghost use Rattle.ts_filter.specs.Laws.{FewWait, FitIsFormed, FormedIsShort, LinesInRange, StepsGoOn};
+ghost use Rattle.ts_filter.specs.Laws.{FitIsFormed, FormedIsShort, LinesInRange, StepsGoOn, StepsLeaveFew};
 ghost use Rattle.ts_filter.specs.Laws.{TreeIsSteps, WaitingAreParts};
 
 /// A split cuts the series of a box in two; the lower side's come first where the cells before have one value each.
@@ -34,7 +34,7 @@ pub fn tree_is_short()
 
 /// While the lines of a tree are treated, few boxes wait, each of them inside the model's.
 pub fn few_wait()
-    ensures few { FewWait }
+    ensures few { StepsLeaveFew }
     ensures parts { WaitingAreParts }
 {}
 
