@@ -42,6 +42,7 @@ impl<'a> Asked for Question<'a> {
 
     ghost of_part = { λ a s t within none. part_excludes a s t within none };
 
+    #[inline(always)]
     fn excludes(self, span: Span) -> bool {
         match self {
             Question::Compares(op, bound) => refutes(op, bound, span),
