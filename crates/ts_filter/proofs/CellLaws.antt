@@ -58,5 +58,27 @@ span_more f values i v span one both lt e is_one is_both inv =
 
 -- the values from a place on
 
+-- the next of the values from a place on
+pub walk_step : (values : List ℤ) (i : ℕ) (v : ℤ) (rest : List ℤ) → drop i values ≡ v ∷ rest →
+    (i < length values) × (slice_get values i ≡ Some v) × (rest ≡ drop (i + 1) values)
+walk_step [] zero v rest e = cc
+walk_step [] (suc i) v rest e = cc
+walk_step (x ∷ xs) zero v rest e = let first : x ≡ v = cc in let others : xs ≡ rest = cc in (omega arith, ap (λ y. Some y) first, sym others)
+walk_step (x ∷ xs) (suc i) v rest e =
+    let later = walk_step xs i v rest e in let place : suc (i + 1) ≡ suc i + 1 = omega arith in
+    (omega (arith, later.0), later.1, later.2 ∙ ap (λ n. drop n (x ∷ xs)) place)
+
+pub walk_end : (values : List ℤ) (i : ℕ) → drop i values ≡ [] → length values ≤ i
+walk_end [] i e = omega arith
+walk_end (x ∷ xs) zero e = cc
+walk_end (x ∷ xs) (suc i) e = let rest = walk_end xs i e in omega (arith, rest)
+
+-- a place before the end that isn't the last one
+pub not_last : (i end : ℕ) → i < end → (i + 1 ≡ end → ⊥) → i + 1 < end
+not_last i zero below more = absurd (omega (arith, below))
+not_last zero (suc zero) below more = absurd (more (omega arith))
+not_last zero (suc (suc n)) below more = omega arith
+not_last (suc i) (suc n) below more = let later = not_last i n (omega (arith, below)) (λ e. more (omega (arith, e))) in omega (arith, later)
+
 pub left_is : (values : List ℤ) (i : ℕ) (x : ℤ) → i < length values → slice_get values i ≡ Some x → drop i values ≡ x ∷ drop (i + 1) values
 left_is values i x lt e = drop_more values i x lt ∙ ap (λ y. y ∷ drop (i + 1) values) (get_or_from_slice_get values i x x e)

@@ -103,6 +103,19 @@ impl<'a> CellHulls<'a> {
         self.cells.cell(self.cell)
     }
 
+    /// The value at place `i`, counted from 0. The first one, which is asked about most, is an end of the set.
+    fn value_at(&self, i: u64) -> i64
+        requires { i < length (values_at self.now.cell self.now.cells) }
+        ensures { slice_get (values_at self.now.cell self.now.cells) i ≡ Some result }
+    {
+        let values = self.values();
+        if i == 0 {
+            values.least()
+        } else {
+            values.nth(i)
+        }
+    }
+
     /// A value with which it shows that some number of the span at the cell does what is asked; none exactly where no
     /// number does. The value `likely` is asked about first, if it is one of the cell.
     pub(crate) fn showing(&self, asked: Question<'_>, likely: i64) -> Option<i64>
@@ -176,7 +189,7 @@ impl<'a> CellHulls<'a> {
             (places_of from to (values_at self.now.cell self.now.cells))) ∷ []) result }
     {
         if to - from == 1 {
-            return self.with_value(so_far, from, self.values().nth(from));
+            return self.with_value(so_far, from, self.value_at(from));
         }
         so_far.with(self.span_at(from, to))
     }
@@ -214,13 +227,14 @@ impl<'a> CellHulls<'a> {
         requires inside { to ≤ length (values_at self.now.cell self.now.cells) }
     {
         let values = self.values();
-        for i in from..to {
-            let v = values.nth(i);
-            if !self.excludes_at(asked, i, v) {
+        let mut i = from;
+        for v in values.values_from(from) {
+            if i + 1 == to || !self.excludes_at(asked, i, v) {
                 return v;
             }
+            i += 1;
         }
-        values.nth(to - 1)
+        values.least()
     }
 
     /// Whether no number of the span does what is asked, on the box with the value `v` alone at the cell.

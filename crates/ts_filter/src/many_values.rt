@@ -89,8 +89,11 @@ fn listed(values: &Domain, from: u64, to: u64) -> [i64; 64]
     ensures values { (i : ℕ) → i < to - from → get_or result i (pos 0) ≡ get_or values.now (from + i) (pos 0) }
 {
     let mut listed = [0_i64; 64];
-    for i in from..to {
-        listed[(i - from) as usize] = values.nth(i);
+    let mut walk = values.values_from(from);
+    for i in 0..(to - from) as usize {
+        if let Some(v) = walk.next() {
+            listed[i] = v;
+        }
     }
     listed
 }

@@ -1,5 +1,5 @@
 use mir.Val.{SFits}
-use Rattle.std.proofs.Common.{◌≡◌, ◌<◌, ℤ, [], ◌∷◌, Some, map, length, slice_get, w64, ap, ◌∙◌, sym, subst, arith, rules}
+use Rattle.std.proofs.Common.{◌<◌, ℤ, [], ◌∷◌, map, length, w64, ap, ◌∙◌, sym, subst, arith, rules}
 use Rattle.std.proofs.lemmas.Int.{to_z-of_z}
 use Rattle.ts_base.specs.declared.span.Span.{Span}
 use Rattle.ts_bound.specs.TermSpans.{span_of_all, value_span}
@@ -19,11 +19,11 @@ returns c =
 
 pub returns-then-to-from-eq1 : goal.returns-then-to-from-eq1
 returns-then-to-from-eq1 c =
-    let t = c.args.self.now in let f : ℤ → Span = value_span t.machine t.cell t.cells in let v = c.nth.result in
+    let t = c.args.self.now in let f : ℤ → Span = value_span t.machine t.cell t.cells in let v = c.value_at.result in
     let fits : SFits w64 v = search rules in
-    let values = values_at t.cell t.cells in let long = ap length c.values.ensures.values in
+    let values = values_at t.cell t.cells in
     let lt : c.args.from < length values = let order = c.requires.order in let inside = c.requires.inside in omega (arith, order, inside) in
-    let is : slice_get values c.args.from ≡ Some v = sym (ap (λ l. slice_get l c.args.from) c.values.ensures.values) ∙ c.nth.ensures in
     subst (λ (s : Span). WithParts c.args.so_far (s ∷ []) c.with_value.result)
     (ap f (to_z-of_z w64 v fits)
-    ∙ sym (one_place f values c.args.from c.args.to v c.if-to-from-eq1.true lt is (value_canonical t.machine t.cell t.cells v))) c.with_value.ensures
+    ∙ sym (one_place f values c.args.from c.args.to v c.if-to-from-eq1.true lt c.value_at.ensures (value_canonical t.machine t.cell t.cells v)))
+    c.with_value.ensures
