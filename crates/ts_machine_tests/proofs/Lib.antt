@@ -1,4 +1,3 @@
-mod Cells
 mod Numbers
 mod Singles
 mod Splits

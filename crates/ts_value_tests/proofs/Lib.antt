@@ -1,1 +1,1 @@
-mod Splits
+pub mod Splits

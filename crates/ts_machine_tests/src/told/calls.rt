@@ -7,7 +7,6 @@ ghost use Rattle.ts_glue.specs.Machines.{pair_of};
 
 use super::spans_at;
 use super::written::{number, word};
-use crate::filters::OPS;
 use Ext::{Int, NegInf, PosInf};
 use std::alloc::Global;
 use std::test::Fail;
@@ -19,6 +18,15 @@ use ts_filter::{
 };
 use ts_glue::Machine;
 use ts_model::{Op, Require};
+
+const COMPARISONS: [Op; 6] = [
+    Op::Equal,
+    Op::Unequal,
+    Op::AtMost,
+    Op::AtLeast,
+    Op::Below,
+    Op::Above,
+];
 
 const BOUNDS: [Ext; 10] = [
     NegInf,
@@ -48,7 +56,7 @@ fn bound_holds(
     requires split { pair_of m.now ≡ None → p ≡ length cells.now.present }
     requires looks { LooksIn (automata_of m.now) cells.now.present }
 {
-    for op in OPS {
+    for op in COMPARISONS {
         let r = Require { term: 0, op, bound };
         if refuted(alloc, m, &r, p, cells)? != refutes(op, bound, span) {
             return Ok(false);
@@ -99,7 +107,7 @@ fn value_bound_holds(
         return Ok(false);
     }
     let (bound, span) = told;
-    for op in OPS {
+    for op in COMPARISONS {
         let r = Require { term: 0, op, bound };
         if refuted_value(alloc, m, &r, p, v, cells)? != refutes(op, bound, span) {
             return Ok(false);
@@ -220,7 +228,7 @@ fn first_bound_holds(
     requires few { length spans.now ≤ 99 }
     requires looks { LooksIn (automata_of m.now) cells.now.present }
 {
-    for op in OPS {
+    for op in COMPARISONS {
         let r = Require { term: 0, op, bound };
         if first_refuted(alloc, m, &r, cells)? != first_refuting(spans, op, bound) {
             return Ok(false);
