@@ -1,3 +1,4 @@
+mod FilledRows
 mod Numbers
 mod Singles
 mod Splits

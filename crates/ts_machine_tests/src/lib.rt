@@ -9,6 +9,8 @@ mod automaton_texts;
 #[cfg(test)]
 mod decorated;
 #[cfg(test)]
+mod filled_rows;
+#[cfg(test)]
 mod glued_values;
 #[cfg(test)]
 mod met;

@@ -292,7 +292,7 @@ at 7 4 4 4 5 7 12
 ";
 
 // The texts behind functions, so that the proofs of the tests don't read them.
-pub(super) fn boxes() -> &'static str {
+pub(crate) fn boxes() -> &'static str {
     BOXES
 }
 

@@ -1,0 +1,94 @@
+//! Rows that the call without memory makes, each from the row before it in the table of a box. The automata and boxes
+//! are those of `told`, where rows of these tables are told from outside: wide and narrow automata, cells with gaps and
+//! without, and numbers that sweeps don't take.
+
+ghost use Rattle.std.specs.Prelude.{◌≡◌, ◌≤◌, None, length};
+ghost use Rattle.ts_bound.specs.HullTables.{forward_table};
+ghost use Rattle.ts_glue.specs.Machines.{forward_of, window_of};
+
+use super::told::cells_of;
+use super::told::machines::{boxes, plain};
+use std::alloc::Global;
+use std::test::Fail;
+use ts_automaton::Hull;
+use ts_base::{Ext, Memory, Span};
+use ts_bound::{HullTable, fill_row, forward};
+use ts_domain::Boxed;
+use ts_glue::Machine;
+
+/// What a row is full of before it is made.
+fn stale() -> Hull {
+    let nine = Span::one(Ext::Int(9));
+    Hull {
+        c: nine,
+        e: nine,
+        d: nine,
+        f: nine,
+        r: nine,
+    }
+}
+
+/// Whether the row of cell `k`, made from that of the cell before, is the one of the table.
+fn row_is_filled(
+    alloc: Global,
+    m: &Machine,
+    cells: &Boxed,
+    table: &HullTable,
+    k: u32,
+) -> Result<bool, Memory>
+    requires plain { window_of m.now ≡ None }
+    requires table { table.now ≡ forward_table (forward_of m.now) (window_of m.now) cells.now.present }
+    requires first { 2 ≤ k }
+    requires last { k ≤ length cells.now.present }
+{
+    let a = m.forward();
+    a.states();
+    let wanted = table.row(k);
+    let mut filled = Vec::from_elem(alloc, stale(), wanted.len())?;
+    let before = table.row(k - 1);
+    fill_row(
+        a,
+        cells.cell(k - 1),
+        before,
+        cells.cell(k),
+        filled.as_mut_slice(),
+    );
+    Ok(filled.as_slice() == wanted)
+}
+
+fn rows_are_filled(alloc: Global, m: &Machine, cells: &Boxed) -> Result<bool, Memory>
+    requires { window_of m.now ≡ None }
+{
+    let table = forward(alloc, m, cells)?;
+    for before in 1..cells.cells() {
+        if !row_is_filled(alloc, m, cells, &table, before + 1)? {
+            return Ok(false);
+        }
+    }
+    Ok(true)
+}
+
+/// The first of the automata by which a row of the box isn't filled so.
+fn first_wrong<'a>(alloc: Global, head: &'a str) -> Result<Option<&'a str>, Fail> {
+    let (names, model) = head.split_once('\n').ok_or("no cells")?;
+    let cells = cells_of(alloc, model)?;
+    for name in names.split_whitespace() {
+        if !rows_are_filled(alloc, &plain(alloc, name)?, &cells)? {
+            return Ok(Some(name));
+        }
+    }
+    Ok(None)
+}
+
+#[test]
+fn rows(rt: HostRuntime) -> Result<(), Fail> {
+    for text in boxes().split('%') {
+        let (head, _) = text.split_once('/').ok_or("no box")?;
+        let (_, head) = head.split_once(':').ok_or("no automata")?;
+        if !head.contains('|') {
+            let wrong = first_wrong(rt.alloc(), head)?;
+            assert!(rt; wrong.is_none(), "{head}");
+        }
+    }
+    Ok(())
+}
