@@ -1,5 +1,6 @@
 -- What is glued of ends stands for what is glued of spans; where sums are plain, they meet small numbers.
-use Rattle.std.proofs.Common.{◌≡◌, ℕ, zero, suc, ◌+◌, ◌*◌, ◌≤◌, ◌<◌, ◌≤ℤ◌, ◌<ℤ◌, ℤ, pos, neg_ℤ, Bool, true, false, cond, ◌||◌, nat_lt, List, [], ◌∷◌, get_or, refl, sym, ap, subst, ◌∙◌, arith, rules}
+use Rattle.std.specs.Int.{int_max, int_min}
+use Rattle.std.proofs.Common.{◌≡◌, ◌⊎◌, inl, inr, ℕ, zero, suc, ◌+◌, ◌*◌, ◌≤◌, ◌<◌, ◌≤ℤ◌, ◌<ℤ◌, ℤ, pos, neg_ℤ, Bool, true, false, cond, ◌||◌, nat_lt, List, [], ◌∷◌, get_or, refl, sym, ap, subst, ◌∙◌, arith, rules}
 use Rattle.std.proofs.lemmas.Int.{ints}
 use Rattle.ts_base.specs.declared.ext.Ext.TheVariants.{Int}
 use Rattle.ts_base.specs.declared.op.Op.{Op}
@@ -26,7 +27,7 @@ use Rattle.ts_sweep.specs.Lanes.{least}
 use Rattle.ts_sweep.specs.OperatorLaws.{sum_within, greater_within, less_within, lesser_within}
 use Rattle.ts_sweep.specs.Packed.{AreSome, AreWithin, IsPackOf, IsSomeEnds, IsWithin, register_span}
 use Rattle.ts_meet.specs.declared.gluing.Gluing.{Gluing}
-use Rattle.ts_meet.specs.Joints.{IsFoldPlain, IsPlain, between_expression, both_expression, expression, folds_held, is_add, joined_expression, leaves_out, part_by}
+use Rattle.ts_meet.specs.Joints.{IsFoldPlain, IsOpenPlain, IsPlain, between_expression, both_expression, expression, folds_held, is_add, joined_expression, leaves_out, part_by}
 use Rattle.ts_meet.specs.SideLaws.{cell_within}
 use Rattle.ts_meet.specs.Sides.{AreSomeEnds, ArePackOf, TakesAny, TakesPlain, plain_by, plain_values}
 
@@ -253,6 +254,71 @@ small e some plain = plain_register 6 NameC lanes lanes (omega arith) are_some (
     are_some : AreSome 6 lanes
     are_some = record { len = refl; above = above; some = holds }
 
+-- a fold of a small number and of ends that lie on one side of small ones is small: it has the other end from that number
+
+-- the greatest has no lower end below those of small numbers where its upper one is small, the least no upper one above them
+abbrev IsBeside : Op → Ends → Type 0
+IsBeside Add e = AreWithin 1 e
+IsBeside Max e = (neg_ℤ (pos 10000000000000000) ≤ℤ e.below) × (e.above ≤ℤ pos 10000000000000000)
+IsBeside Min e = (e.below ≤ℤ pos 10000000000000000) × (neg_ℤ (pos 10000000000000000) ≤ℤ e.above)
+
+small_or_not : (x : ℤ) → (x ≤ℤ pos 10000000000000000) ⊎ (pos 10000000000000000 <ℤ x)
+small_or_not x = grind (arith, ints)
+
+open_beside : (o : Op) (e : Ends) → IsSomeEnds e → IsOpenPlain o e → IsBeside o e
+open_beside Add e some p = small e some p
+open_beside Max e some p = (
+  elim (small_or_not e.below) [
+    | inl is ↦ (small e some (is, p)).0.0
+    | inr large ↦ omega (arith, ints, large)
+  ],
+  p,
+)
+open_beside Min e some p = (
+  p,
+  elim (small_or_not e.above) [
+    | inl is ↦ (small e some (p, is)).1.0
+    | inr large ↦ omega (arith, ints, large)
+  ],
+)
+
+within_beside : (o : Op) (e : Ends) → AreWithin 1 e → IsBeside o e
+within_beside Add e p = p
+within_beside Max e p = (p.0.0, p.1.1)
+within_beside Min e p = (p.0.1, p.1.0)
+
+min_above : (l x y : ℤ) → l ≤ℤ x → l ≤ℤ y → l ≤ℤ int_min x y
+min_above l x y p q = grind (arith, ints)
+
+min_first : (t x y : ℤ) → x ≤ℤ t → int_min x y ≤ℤ t
+min_first t x y p = grind (arith, ints)
+
+min_second : (t x y : ℤ) → y ≤ℤ t → int_min x y ≤ℤ t
+min_second t x y p = grind (arith, ints)
+
+max_below : (t x y : ℤ) → x ≤ℤ t → y ≤ℤ t → int_max x y ≤ℤ t
+max_below t x y p q = grind (arith, ints)
+
+max_first : (l x y : ℤ) → l ≤ℤ x → l ≤ℤ int_max x y
+max_first l x y p = grind (arith, ints)
+
+max_second : (l x y : ℤ) → l ≤ℤ y → l ≤ℤ int_max x y
+max_second l x y p = grind (arith, ints)
+
+small_first : (o : Op) (x y : Ends) → is_add o ≡ false → AreWithin 1 x → IsBeside o y → AreWithin 1 (plain_by (Fold o) x y)
+small_first Add x y e p q = never_added e
+small_first Max x y e p q =
+    ((min_above _ _ _ p.0.0 q.0, min_first _ _ _ p.0.1), (max_first _ _ _ p.1.0, max_below _ _ _ p.1.1 q.1))
+small_first Min x y e p q =
+    ((max_first _ _ _ p.0.0, max_below _ _ _ p.0.1 q.0), (min_above _ _ _ p.1.0 q.1, min_first _ _ _ p.1.1))
+
+small_second : (o : Op) (x y : Ends) → is_add o ≡ false → IsBeside o x → AreWithin 1 y → AreWithin 1 (plain_by (Fold o) x y)
+small_second Add x y e p q = never_added e
+small_second Max x y e p q =
+    ((min_above _ _ _ p.0 q.0.0, min_second _ _ _ q.0.1), (max_second _ _ _ q.1.0, max_below _ _ _ p.1 q.1.1))
+small_second Min x y e p q =
+    ((max_second _ _ _ q.0.0, max_below _ _ _ p.0 q.0.1), (min_above _ _ _ p.1 q.1.0, min_second _ _ _ q.1.1))
+
 module _ (a b : EachOf Ends) where
   -- each register and number in it is small
   abbrev AreSmallIn : Glue → Type 0
@@ -284,16 +350,41 @@ module _ (a b : EachOf Ends) where
   free_takes (With o u v) h = (free_takes u h.1, free_takes v h.2, free_taken o _ _ h.0)
 
   module _ (some_a : AreSomeEnds a) (some_b : AreSomeEnds b) where
-    fold_small : (o : Op) (d : ℤ) (trims l r : Bool) → IsWithin 1 d → IsWithin 1 (neg_ℤ d) → ArePlain a.d → ArePlain b.d →
-        (folds_held trims l ≡ true → ArePlain a.c) → (folds_held trims r ≡ true → ArePlain b.c) → AreSmallIn (folded o Whole d trims l r)
-    fold_small o d true true true w n p q s t = ((((small a.c some_a.0 (s refl), small a.d some_a.2 p), w), small b.c some_b.0 (t refl)), small b.d some_b.2 q)
-    fold_small o d true true false w n p q s t = (((small a.c some_a.0 (s refl), small a.d some_a.2 p), w), small b.d some_b.2 q)
-    fold_small o d true false true w n p q s t = (((small a.d some_a.2 p, w), small b.c some_b.0 (t refl)), small b.d some_b.2 q)
-    fold_small o d true false false w n p q s t = ((small a.d some_a.2 p, w), small b.d some_b.2 q)
-    fold_small Add d false l r w n p q s t =
+    fold_small : (d : ℤ) (trims l r : Bool) → IsWithin 1 d → IsWithin 1 (neg_ℤ d) → ArePlain a.d → ArePlain b.d →
+        (folds_held trims l ≡ true → ArePlain a.c) → (folds_held trims r ≡ true → ArePlain b.c) → AreSmallIn (folded Add Whole d trims l r)
+    fold_small d true true true w n p q s t = ((((small a.c some_a.0 (s refl), small a.d some_a.2 p), w), small b.c some_b.0 (t refl)), small b.d some_b.2 q)
+    fold_small d true true false w n p q s t = (((small a.c some_a.0 (s refl), small a.d some_a.2 p), w), small b.d some_b.2 q)
+    fold_small d true false true w n p q s t = (((small a.d some_a.2 p, w), small b.c some_b.0 (t refl)), small b.d some_b.2 q)
+    fold_small d true false false w n p q s t = ((small a.d some_a.2 p, w), small b.d some_b.2 q)
+    fold_small d false l r w n p q s t =
         (((small a.c some_a.0 (s refl), small a.d some_a.2 p), (small b.c some_b.0 (t refl), small b.d some_b.2 q)), n)
-    fold_small Max d false l r w n p q s t = ((small a.c some_a.0 (s refl), small a.d some_a.2 p), (small b.c some_b.0 (t refl), small b.d some_b.2 q))
-    fold_small Min d false l r w n p q s t = ((small a.c some_a.0 (s refl), small a.d some_a.2 p), (small b.c some_b.0 (t refl), small b.d some_b.2 q))
+
+    -- of cells that may be none the one that goes with a small number is small
+    fold_one : (o : Op) (d : ℤ) (trims l r : Bool) → is_add o ≡ false → IsWithin 1 d → IsOpenPlain o a.d → IsOpenPlain o b.d →
+        (folds_held trims l ≡ true → ArePlain a.c) → (folds_held trims r ≡ true → ArePlain b.c) →
+        AreWithin 1 (glue_in plain_values a b (folded o Whole d trims l r))
+    fold_one o d true true true e w p q s t =
+        small_first o _ _ e
+        (small_first o _ _ e
+        (small_first o _ _ e (small_first o _ _ e (small a.c some_a.0 (s refl)) (open_beside o a.d some_a.2 p)) (within_beside o _ (number_within d w)))
+        (within_beside o _ (small b.c some_b.0 (t refl)))) (open_beside o b.d some_b.2 q)
+    fold_one o d true true false e w p q s t =
+        small_first o _ _ e
+        (small_first o _ _ e (small_first o _ _ e (small a.c some_a.0 (s refl)) (open_beside o a.d some_a.2 p)) (within_beside o _ (number_within d w)))
+        (open_beside o b.d some_b.2 q)
+    fold_one o d true false true e w p q s t =
+        small_first o _ _ e
+        (small_first o _ _ e (small_second o _ _ e (open_beside o a.d some_a.2 p) (number_within d w)) (within_beside o _ (small b.c some_b.0 (t refl))))
+        (open_beside o b.d some_b.2 q)
+    fold_one o d true false false e w p q s t =
+        small_first o _ _ e (small_second o _ _ e (open_beside o a.d some_a.2 p) (number_within d w)) (open_beside o b.d some_b.2 q)
+    fold_one Add d false l r e w p q s t = never_added e
+    fold_one Max d false l r e w p q s t =
+        small_first Max _ _ e (small_first Max _ _ e (small a.c some_a.0 (s refl)) (open_beside Max a.d some_a.2 p))
+        (within_beside Max _ (small_first Max _ _ e (small b.c some_b.0 (t refl)) (open_beside Max b.d some_b.2 q)))
+    fold_one Min d false l r e w p q s t =
+        small_first Min _ _ e (small_first Min _ _ e (small a.c some_a.0 (s refl)) (open_beside Min a.d some_a.2 p))
+        (within_beside Min _ (small_first Min _ _ e (small b.c some_b.0 (t refl)) (open_beside Min b.d some_b.2 q)))
 
     fold_narrow : (o : Op) (d : ℤ) (trims l r : Bool) → IsNarrow (folded o Whole d trims l r)
     fold_narrow o d true true true = search rules
@@ -325,12 +416,22 @@ module _ (a b : EachOf Ends) where
     worth_small : (x : ℤ) → IsCellValue x → IsWithin 1 x × IsWithin 1 (neg_ℤ x)
     worth_small x h = (cell_within x h, cell_within (neg_ℤ x) (cell_neg x h))
 
+    fold_within : (o : Op) (d : ℤ) (trims l r : Bool) → IsWithin 1 d → IsWithin 1 (neg_ℤ d) → IsOpenPlain o a.d → IsOpenPlain o b.d →
+        (folds_held trims l ≡ true → ArePlain a.c) → (folds_held trims r ≡ true → ArePlain b.c) →
+        AreWithin 5 (glue_in plain_values a b (folded o Whole d trims l r)) × GlueTakes TakesPlain plain_values a b (folded o Whole d trims l r)
+    fold_within Add d trims l r w n p q s t =
+        let u = folded Add Whole d trims l r in let h = fold_small d trims l r w n p q s t in
+        (are_within (words u) _ (fold_words Add d trims l r) (within_words u h), small_takes u (fold_narrow Add d trims l r) h)
+    fold_within Max d trims l r w n p q s t =
+        (are_within 1 _ (omega arith) (fold_one Max d trims l r refl w p q s t), free_takes (folded Max Whole d trims l r) (fold_free Max d trims l r refl))
+    fold_within Min d trims l r w n p q s t =
+        (are_within 1 _ (omega arith) (fold_one Min d trims l r refl w p q s t), free_takes (folded Min Whole d trims l r) (fold_free Min d trims l r refl))
+
     folds_taken : (g : Gluing) (h : IsCellValue g.worth) → (is_add g.fold ≡ true → IsFoldPlain g a b) → (v : Bool) → is_add g.fold ≡ v →
         GlueTakes TakesPlain plain_values a b (folded g.fold Whole g.worth g.trims g.held_left g.held_right)
     folds_taken g h plain true e =
         let f = plain e in let w = worth_small g.worth h in
-        small_takes (folded g.fold Whole g.worth g.trims g.held_left g.held_right) (fold_narrow g.fold g.worth g.trims g.held_left g.held_right)
-        (fold_small g.fold g.worth g.trims g.held_left g.held_right w.0 w.1 f.left_d f.right_d f.left_c f.right_c)
+        (fold_within g.fold g.worth g.trims g.held_left g.held_right w.0 w.1 f.left_d f.right_d f.left_c f.right_c).1
     folds_taken g h plain false e =
         free_takes (folded g.fold Whole g.worth g.trims g.held_left g.held_right) (fold_free g.fold g.worth g.trims g.held_left g.held_right e)
 
@@ -346,14 +447,11 @@ module _ (a b : EachOf Ends) where
     joined_taken g h plain j true e =
         let rs = plain.results e in
         let f = plain.folded (left_or (is_add g.result) (is_add g.fold) e) j in let w = worth_small g.worth h in
-        small_takes (join_of g.result (folded g.fold Whole g.worth g.trims g.held_left g.held_right)) (
-          omega arith,
-          fold_words g.fold g.worth g.trims g.held_left g.held_right,
-          (omega arith, omega arith, tt, tt),
-          fold_narrow g.fold g.worth g.trims g.held_left g.held_right,
-        ) (
-          (small a.r some_a.4 rs.0, small b.r some_b.4 rs.1),
-          fold_small g.fold g.worth g.trims g.held_left g.held_right w.0 w.1 f.left_d f.right_d f.left_c f.right_c,
+        let u = fold_within g.fold g.worth g.trims g.held_left g.held_right w.0 w.1 f.left_d f.right_d f.left_c f.right_c in
+        let o = Fold g.result in let ar = small a.r some_a.4 rs.0 in let br = small b.r some_b.4 rs.1 in (
+          (tt, tt, both_taken o 1 1 a.r b.r (omega arith) (omega arith) ar br),
+          u.1,
+          both_taken o 2 5 (plain_by o a.r b.r) _ (omega arith) (omega arith) (both_within o 1 1 a.r b.r ar br) u.0,
         )
     joined_taken g h plain j false e = (
       (tt, tt, free_taken (Fold g.result) a.r b.r e),

@@ -6,7 +6,7 @@ use Rattle.ts_base.proofs.Order.{le_trans, min_left, max_left}
 use Rattle.ts_base.proofs.SpanLaws.{one_some}
 use Rattle.ts_base.specs.Numbers.{ext_le, ext_max, ext_min}
 use Rattle.ts_base.specs.declared.ext.Ext.{Ext}
-use Rattle.ts_base.specs.declared.ext.Ext.TheVariants.{Int}
+use Rattle.ts_base.specs.declared.ext.Ext.TheVariants.{Int, NegInf, PosInf}
 use Rattle.ts_base.specs.declared.span.Span.{Span}
 use Rattle.ts_base.specs.Spans.{has_some, none_span, one_span, span_hull}
 use Rattle.ts_automaton.specs.declared.state.Mark.{Mark}
@@ -14,6 +14,7 @@ use Rattle.ts_automaton.specs.declared.state.Mark.TheVariants.{Same, Zero, Cells
 use Rattle.ts_automaton.specs.AutomatonRun.{under_mark}
 use Rattle.ts_automaton.specs.SpanRun.{marked_span}
 use Rattle.ts_sweep.specs.declared.packed.Ends.{Ends}
+use Rattle.ts_sweep.specs.FrontLaws.{never_added}
 use Rattle.ts_sweep.specs.Lanes.{least}
 use Rattle.ts_sweep.specs.Packed.{upper, negated, ends, ends_span, max_ends, IsPackOf}
 use Rattle.ts_sweep.specs.UpperLaws.{low_or_not, high_or_not, upper_low, upper_high, upper_mid, upper_max, lower_max}
@@ -166,13 +167,68 @@ marked_packs k n e s few p =
       span = is;
     }
 
+-- a mark changes infinite ends alone
+
+same_ends : (a b : Ends) → a.below ≡ b.below → a.above ≡ b.above → a ≡ b
+same_ends a b p q = ap (λ z. ends z a.above) p ∙ ap (ends b.below) q
+
+no_lower : (y : ℤ) → y <ℤ pos 9223372036854775807 → ext_le PosInf (upper y) ≡ false
+no_lower y h = elim (low_or_not y) [
+  | inl low ↦ ap (ext_le PosInf) (upper_low y low)
+  | inr above ↦ ap (ext_le PosInf) (upper_mid y above h)
+]
+
+le_means : (x y : ℤ) → int_le x y ≡ true → x ≤ℤ y
+le_means x y h = grind (arith, ints)
+
+-- where no end of a register is infinite outwards, both are numbers, the lower one at most the upper one
+are_numbers : (x y : ℤ) → has_some (ends_span (ends x y)) ≡ true → x <ℤ pos 9223372036854775807 → y <ℤ pos 9223372036854775807 →
+    (negsuc 9223372036854775806 <ℤ x) × (negsuc 9223372036854775806 <ℤ y) × (neg_ℤ x ≤ℤ y)
+are_numbers x y some px py = elim (low_or_not x) [
+  | inl low ↦ never_added (sym some ∙ ap (λ a. ext_le (negated a) (upper y)) (upper_low x low) ∙ no_lower y py)
+  | inr ax ↦ elim (low_or_not y) [
+    | inl low ↦ never_added (sym some ∙ ap (ext_le (negated (upper x))) (upper_low y low) ∙ ap (λ a. ext_le (negated a) NegInf) (upper_mid x ax px))
+    | inr ay ↦ (
+      ax,
+      ay,
+      le_means (neg_ℤ x) y
+          (sym (ap (λ a. ext_le (negated a) (upper y)) (upper_mid x ax px) ∙ ap (ext_le (Int (neg_ℤ x))) (upper_mid y ay py)) ∙ some),
+    )
+  ]
+]
+
+number_marked : (k : Mark) (n : ℕ) (x : ℤ) → negsuc 9223372036854775806 <ℤ x → x <ℤ pos 9223372036854775807 →
+    (marked_below k n x ≡ x) × (marked_above k n x ≡ x)
+number_marked Same n x low high = (refl, refl)
+number_marked Zero n x low high = (
+  ap (λ b. cond b (pos 0) x) (le_false (pos 9223372036854775807) x high),
+  ap (λ b. cond b (pos 0) x) (le_false x (negsuc 9223372036854775806) low),
+)
+number_marked Cells n x low high = (
+  ap (λ b. cond b (neg_ℤ (pos n)) x) (le_false x (negsuc 9223372036854775806) low),
+  ap (λ b. cond b (pos n) x) (le_false (pos 9223372036854775807) x high),
+)
+
+first_max : (x y : ℤ) → neg_ℤ x ≤ℤ y → int_max x (neg_ℤ y) ≡ x
+first_max x y h = grind (arith, ints)
+
+second_max : (x y : ℤ) → neg_ℤ x ≤ℤ y → int_max (neg_ℤ x) y ≡ y
+second_max x y h = grind (arith, ints)
+
+pub finite_kept : (k : Mark) (n : ℕ) (e : Ends) (s : Span) → n ≤ 4294967295 → e.below <ℤ pos 9223372036854775807 →
+    e.above <ℤ pos 9223372036854775807 → IsPackOf e s → IsPackOf e (marked_span k n s)
+finite_kept k n e s few below above p =
+    let are = are_numbers e.below e.above p.some.some below above in
+    let low = (number_marked k n e.below are.0 below).0 in let high = (number_marked k n e.above are.1 above).1 in
+    let is : marked_ends k n e ≡ e =
+    ap (λ z. hull_of_lanes z (marked_above k n e.above)) low ∙ ap (hull_of_lanes e.below) high
+    ∙ same_ends (hull_of_lanes e.below e.above) e (first_max e.below e.above are.2) (second_max e.below e.above are.2) in
+    subst (λ z. IsPackOf z (marked_span k n s)) is (marked_packs k n e s few p)
+
 -- spans that are taken in
 
 least_max : (x : ℤ) → least <ℤ x → int_max least x ≡ x
 least_max x h = grind (arith, ints)
-
-same_ends : (a b : Ends) → a.below ≡ b.below → a.above ≡ b.above → a ≡ b
-same_ends a b p q = ap (λ z. ends z a.above) p ∙ ap (ends b.below) q
 
 none_first : (t : Span) → has_some t ≡ true → span_hull none_span t ≡ t
 none_first t h = ap (λ b. cond b t none_span) h

@@ -4,19 +4,20 @@ use Rattle.std.proofs.Common.{w64, ◌≡◌, ◌⊎◌, ◌+◌, ◌<◌, ◌�
 use Rattle.std.proofs.lemmas.Int.{ints, to_z-of_z}
 use Rattle.std.specs.Int.{int_max}
 use Rattle.ts_base.specs.declared.op.Op.{Op}
+use Rattle.ts_base.specs.declared.op.Op.TheVariants.{Add, Max, Min}
 use Rattle.ts_automaton.specs.Registers.{EachOf}
 use Rattle.ts_row.specs.Rows.{lanes_of, nothing}
 use Rattle.ts_sweep.specs.declared.packed.Ends.{Ends}
 use Rattle.ts_sweep.specs.declared.packed.PackedHull.{PackedHull}
 use Rattle.ts_sweep.specs.FrontLaws.{never_added}
 use Rattle.ts_sweep.specs.Fronts.{ArePlain}
-use Rattle.ts_sweep.specs.Packed.{ends}
+use Rattle.ts_sweep.specs.Packed.{ends, max_ends}
 use Rattle.ts_sweep.specs.Sides.{sides}
 use Rattle.ts_meet.specs.declared.gluing.Gluing.{Gluing}
 use Rattle.ts_meet.specs.declared.joints.Joints.{Joints}
 use Rattle.ts_meet.specs.declared.peaks.Peaks.{Peaks}
-use Rattle.ts_meet.specs.Joints.{IsPlain, is_add}
-use Rattle.ts_meet.specs.Peaks.{AreAllUnder, AreTaken, AreWatched, IsBelow, IsHullUnder, IsUnder, sides_of_peaks}
+use Rattle.ts_meet.specs.Joints.{IsOpenPlain, IsPlain, is_add}
+use Rattle.ts_meet.specs.Peaks.{AreAllUnder, AreBelow, AreTaken, AreWatched, IsBelow, IsHullUnder, IsUnder, sides_of_peaks}
 use Rattle.ts_meet.specs.Sides.{side_of}
 
 -- the greatest of a number and two ends is above all three
@@ -35,11 +36,37 @@ pub top_of : (t : ℤ) (a : Ends) (r : ℤ) → SFits w64 t → SFits w64 r → 
     to_z w64 (of_z w64 r) ≡ int_max (int_max t a.below) a.above
 top_of t a r first last is = to_z-of_z w64 r last ∙ is ∙ ap (λ z. int_max (int_max z a.below) a.above) (to_z-of_z w64 t first)
 
+above_still : (t x y : ℤ) → t ≤ℤ int_max (int_max t x) y
+above_still t x y = grind (arith, ints)
+
+pub peak_still : (t : ℤ) (a : Ends) → t ≤ℤ int_max (int_max t a.below) a.above
+peak_still t a = above_still t a.below a.above
+
 pub below_still : (t : ℤ) (a e : Ends) → IsBelow e t → IsBelow e (int_max (int_max t a.below) a.above)
 below_still t a e h = (above_top t a.below a.above e.below h.0, above_top t a.below a.above e.above h.1)
 
 pub below_now : (t : ℤ) (a : Ends) → IsBelow a (int_max (int_max t a.below) a.above)
 below_now t a = (above_first t a.below a.above, above_second t a.below a.above)
+
+pub below_more : (t r : ℤ) (e : Ends) → t ≤ℤ r → IsBelow e t → IsBelow e r
+below_more t r e h p = let a = p.0 in let b = p.1 in (omega (arith, ints, h, a), omega (arith, ints, h, b))
+
+pub still_of : (t r : ℤ) → SFits w64 t → SFits w64 r → to_z w64 (of_z w64 t) ≤ℤ r → t ≤ℤ to_z w64 (of_z w64 r)
+still_of t r first last h = subst (λ z. t ≤ℤ z) (sym (to_z-of_z w64 r last)) (subst (λ z. z ≤ℤ r) (to_z-of_z w64 t first) h)
+
+-- end by end
+
+below_either : (x y z : ℤ) → z ≤ℤ x → z ≤ℤ int_max x y
+below_either x y z h = grind (arith, ints)
+
+below_other : (x y : ℤ) → y ≤ℤ int_max x y
+below_other x y = grind (arith, ints)
+
+pub ends_still : (a b e : Ends) → AreBelow e a → AreBelow e (max_ends a b)
+ends_still a b e h = (below_either a.below b.below e.below h.0, below_either a.above b.above e.above h.1)
+
+pub ends_now : (a b : Ends) → AreBelow b (max_ends a b)
+ends_now a b = (below_other a.below b.below, below_other a.above b.above)
 
 plain_below : (e : Ends) (top : ℤ) → IsBelow e top → ArePlain (ends top top) → ArePlain e
 plain_below e top h p = let a = h.0 in let b = h.1 in let x = p.0 in (omega (arith, ints, a, x), omega (arith, ints, b, x))
@@ -50,6 +77,11 @@ left_or u v e = ap (λ z. z || v) e
 narrow_or : (w u v : Bool) → w ≡ false → (w || u) ≡ true → (u || v) ≡ true
 narrow_or w u v n e = left_or u v (sym (ap (λ z. z || u) n) ∙ e)
 
+open_below : (o : Op) (e top : Ends) → AreBelow e top → IsOpenPlain o top → IsOpenPlain o e
+open_below Add e top h p = let a = h.0 in let b = h.1 in let x = p.0 in let y = p.1 in (omega (arith, ints, a, x), omega (arith, ints, b, y))
+open_below Max e top h p = let b = h.1 in omega (arith, ints, b, p)
+open_below Min e top h p = let a = h.0 in omega (arith, ints, a, p)
+
 pub plain_within : (g : Gluing) (k l : Peaks) (a b : EachOf Ends) → g.wide ≡ false → IsPlain g (sides_of_peaks k) (sides_of_peaks l) →
     ((is_add g.result || is_add g.fold) ≡ true → IsUnder k a × IsUnder l b) → IsPlain g a b
 plain_within g k l a b narrow p under = record {
@@ -59,8 +91,8 @@ plain_within g k l a b narrow p under = record {
       (plain_below a.c k.c u.0.0 cs.0, plain_below b.c l.c u.1.0 cs.1);
   away = λ w. never_added (sym w ∙ narrow);
   folded = λ e j. let u = under e in let f = p.folded e j in record {
-    left_d = plain_below a.d k.d u.0.1 f.left_d;
-    right_d = plain_below b.d l.d u.1.1 f.right_d;
+    left_d = open_below g.fold a.d k.d u.0.1 f.left_d;
+    right_d = open_below g.fold b.d l.d u.1.1 f.right_d;
     left_c = λ h. plain_below a.c k.c u.0.0 (f.left_c h);
     right_c = λ h. plain_below b.c l.c u.1.0 (f.right_c h);
   };

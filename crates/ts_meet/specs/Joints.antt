@@ -1,8 +1,10 @@
 -- How the two runs of a machine are glued, found once for a machine.
-use Rattle.std.specs.Prelude.{◌≡◌, ◌<◌, ℕ, zero, suc, nat_eq, ℤ, Bool, true, false, ◌||◌, List, [], get_or, length, if◌then◌else◌}
+use Rattle.std.specs.Prelude.{◌≡◌, ◌<◌, ◌≤ℤ◌, ℕ, pos, zero, suc, nat_eq, ℤ, Bool, true, false, ◌||◌, List, [], get_or, length, if◌then◌else◌}
 use Rattle.ts_base.specs.declared.op.Op.{Op}
 use Rattle.ts_base.specs.declared.op.Op.TheVariants.{Add, Max, Min}
 use Rattle.ts_automaton.specs.Body.{node_at}
+use Rattle.ts_automaton.specs.declared.state.Mark.{Mark}
+use Rattle.ts_automaton.specs.declared.state.Mark.TheVariants.{Same, Zero as ZeroMark, Cells}
 use Rattle.ts_automaton.specs.Registers.{EachOf}
 use Rattle.ts_glue.specs.Glue.{Glue, apart, fold_of, folded_between, folded_both, fold_op, glue_of, is_join, is_wide, join_of, result_op, worth}
 use Rattle.ts_glue.specs.declared.operand.Part.{Part}
@@ -66,6 +68,10 @@ IsGluing p q r g = (x : ℤ) → expression (with_worth g (worth p.table.unit x)
 abbrev pub numbered : ℕ → Op
 numbered k = if nat_eq k 0 then Add else if nat_eq k 1 then Max else Min
 
+-- and the mark
+abbrev pub numbered_mark : ℕ → Mark
+numbered_mark k = if nat_eq k 0 then Same else if nat_eq k 1 then ZeroMark else Cells
+
 -- the operator adds
 abbrev pub is_add : Op → Bool
 is_add Add = true
@@ -76,10 +82,16 @@ is_add Min = false
 abbrev pub folds_held : Bool → Bool → Bool
 folds_held trims held = if trims then held else true
 
+-- cells that may be none leave a fold with a small number small: no end that it may take from them is above 10^16
+abbrev pub IsOpenPlain : Op → Ends → Type 0
+IsOpenPlain Add e = ArePlain e
+IsOpenPlain Max e = e.above ≤ℤ pos 10000000000000000
+IsOpenPlain Min e = e.below ≤ℤ pos 10000000000000000
+
 -- no end of a number that is folded is above 10^16
 pub record IsFoldPlain (g : Gluing) (left right : EachOf Ends) : Type 0 where
-  pub left_d : ArePlain left.d
-  pub right_d : ArePlain right.d
+  pub left_d : IsOpenPlain g.fold left.d
+  pub right_d : IsOpenPlain g.fold right.d
   pub left_c : folds_held g.trims g.held_left ≡ true → ArePlain left.c
   pub right_c : folds_held g.trims g.held_right ≡ true → ArePlain right.c
 

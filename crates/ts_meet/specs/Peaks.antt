@@ -14,18 +14,22 @@ use Rattle.ts_meet.specs.Sides.{side_of}
 
 -- those of a column that isn't there
 abbrev pub no_peaks : Peaks
-no_peaks = record { c = pos 0; d = pos 0; r = pos 0 }
+no_peaks = record { c = pos 0; d = ends (pos 0) (pos 0); r = pos 0 }
 
 -- narrow registers with these ends
 abbrev pub sides_of_peaks : Peaks → EachOf Ends
-sides_of_peaks k = each (ends k.c k.c) (ends k.c k.c) (ends k.d k.d) (ends k.d k.d) (ends k.r k.r)
+sides_of_peaks k = each (ends k.c k.c) (ends k.c k.c) k.d k.d (ends k.r k.r)
 
 -- both ends are at most a number
 abbrev pub IsBelow : Ends → ℤ → Type 0
 IsBelow e top = (e.below ≤ℤ top) × (e.above ≤ℤ top)
 
+-- each end is at most that of others
+abbrev pub AreBelow : Ends → Ends → Type 0
+AreBelow e top = (e.below ≤ℤ top.below) × (e.above ≤ℤ top.above)
+
 abbrev pub IsUnder : Peaks → EachOf Ends → Type 0
-IsUnder k a = IsBelow a.c k.c × IsBelow a.d k.d × IsBelow a.r k.r
+IsUnder k a = IsBelow a.c k.c × AreBelow a.d k.d × IsBelow a.r k.r
 
 -- so are the registers of a hull, if they lie in it; those of the hulls at so many places from one on
 abbrev pub IsHullUnder : (n : ℕ) → Peaks → PackedHull n → Type 0

@@ -8,7 +8,7 @@ ghost use Rattle.ts_base.specs.Spans.{span_hull};
 ghost use Rattle.ts_glue.specs.Glue.{glue_of, is_join};
 ghost use Rattle.ts_glue.specs.Pairs.{Pair};
 ghost use Rattle.ts_meet.specs.Along.{AreCellValues, glued_along, hull_over, pair_along, with_along};
-ghost use Rattle.ts_meet.specs.Joints.{AreJoints, IsGluing, expression, numbered};
+ghost use Rattle.ts_meet.specs.Joints.{AreJoints, IsGluing, expression, numbered, numbered_mark};
 ghost use Rattle.ts_meet.specs.Meets.{glued_seen};
 ghost use Rattle.ts_meet.specs.Peaks.{AreTaken, AreWatched, IsTaken, no_peaks};
 ghost use Rattle.ts_meet.specs.Settled.{ArePlaces, HavePlaces, with_hull};
@@ -17,13 +17,13 @@ ghost use Rattle.ts_row.specs.Rows.{lanes_of};
 ghost use Rattle.ts_sweep.specs.Packed.{IsPacked};
 ghost use Rattle.ts_sweep.specs.Sides.{BothEnds, lane_count, sides};
 
-use crate::fold::{GREATEST, LEAST, SUM, numbered};
+use crate::fold::{CELLS, GREATEST, LEAST, SAME, SUM, ZERO, numbered, numbered_mark};
 use crate::gluing::Gluing;
 use crate::joints::{Joints, STATES};
 use crate::marked::{hull_of_both, joined, marked, nothing, span_of};
 use crate::peaks::{Peaks, peaks_of};
 use crate::seam::{Any, Apart, Between, Both, PlainApart, Seam};
-use ts_automaton::Op;
+use ts_automaton::{Mark, Op};
 use ts_base::Span;
 use ts_row::RowView;
 use ts_sweep::packed::{Ends, Packed, PackedHull};
@@ -75,7 +75,7 @@ fn along_by<const O: u8, const N: usize>(
     ensures { (p : Pair) → AreJoints p joints.now →
         result ≡ glued_along N p left.now right.now from values.now cells }
 {
-    let seconds = peaks_of(
+    let seconds = peaks_of::<O, N>(
         joints.adds(),
         joints.right_states,
         right,
@@ -127,7 +127,7 @@ fn with_columns<const O: u8, const N: usize>(
         (with_along N p q left.now right.now from values.now cells (length p.reverse.states) so_far)
         (length values.now)) }
 {
-    let first = Peaks::of(joints.adds(), left, from, values.len());
+    let first = Peaks::of::<O, N>(joints.adds(), left, from, values.len());
     let mut all = hull;
     for r in 0..joints.right_states {
         let second = seconds[r as usize];
@@ -309,9 +309,8 @@ fn along_folded<const O: u8, const F: u8, const N: usize>(
     }
 }
 
-/// The hull of the glued spans of two states that are glued so, but for what the cell is worth. It is a call
-/// for each way, so that all that is constant in its loop is known there.
-#[inline(never)]
+/// The hull of the glued spans of two states that are glued so, but for what the cell is worth.
+#[inline(always)]
 fn along_glued<S: Seam<N>, const N: usize>(
     seam: S,
     joints: &Joints,
@@ -332,9 +331,46 @@ fn along_glued<S: Seam<N>, const N: usize>(
     ensures { (p : Pair) (q r : ℕ) → AreJoints p joints.now → IsGluing p q r gluing → StandFor result
         (pair_along N p q r left.now right.now from values.now cells (length values.now)) }
 {
+    match joints.mark {
+        Mark::Same => {
+            along_values::<S, SAME, N>(seam, joints, gluing, left, right, values, from, cells)
+        }
+        Mark::Zero => {
+            along_values::<S, ZERO, N>(seam, joints, gluing, left, right, values, from, cells)
+        }
+        Mark::Cells => {
+            along_values::<S, CELLS, N>(seam, joints, gluing, left, right, values, from, cells)
+        }
+    }
+}
+
+/// The hull of the glued spans of two states that are glued so, but for what the cell is worth. `M` is the number of
+/// the mark. It is a call for each way, so that all that is constant in its loop is known there.
+#[inline(never)]
+fn along_values<S: Seam<N>, const M: u8, const N: usize>(
+    seam: S,
+    joints: &Joints,
+    gluing: Gluing,
+    left: &[PackedHull<N>],
+    right: &[PackedHull<N>],
+    values: &[i64],
+    from: usize,
+    cells: u32,
+) -> Ends
+    requires fits { S.fits gluing }
+    requires registers { 6 ≤ lane_count N }
+    requires alone { (sides N ≡ BothEnds) ⊎ (gluing.wide ≡ false) }
+    requires left { ArePlaces N (from + length values.now) left.now }
+    requires right { ArePlaces N (from + length values.now) right.now }
+    requires values { AreCellValues values.now }
+    requires takes { AreTaken N (S.takes gluing) left.now right.now from (length values.now) }
+    requires mark { numbered_mark M ≡ joints.now.mark }
+    ensures { (p : Pair) (q r : ℕ) → AreJoints p joints.now → IsGluing p q r gluing → StandFor result
+        (pair_along N p q r left.now right.now from values.now cells (length values.now)) }
+{
     let mut hull = nothing();
     for i in 0..values.len() {
-        hull = with_value(
+        hull = with_value::<S, M, N>(
             seam,
             hull,
             joints,
@@ -350,7 +386,7 @@ fn along_glued<S: Seam<N>, const N: usize>(
 
 /// A hull with the glued span of two hulls at a value added, if any series reaches both states.
 #[inline(always)]
-fn with_value<S: Seam<N>, const N: usize>(
+fn with_value<S: Seam<N>, const M: u8, const N: usize>(
     seam: S,
     hull: Ends,
     joints: &Joints,
@@ -367,12 +403,13 @@ fn with_value<S: Seam<N>, const N: usize>(
     requires right { IsPacked (lane_count N) (lanes_of N right.now) }
     requires value { IsCellValue value }
     requires takes { IsTaken N (S.takes gluing) left.now right.now }
+    requires mark { numbered_mark M ≡ joints.now.mark }
     ensures { (p : Pair) (q r : ℕ) (s : Span) → AreJoints p joints.now → IsGluing p q r gluing → StandFor hull s →
         StandFor result (span_hull s
         (glued_seen (sides N) p (with_hull N q left.now) (with_hull N r right.now) value cells)) }
 {
     let worth = joints.unit.worth(value);
-    with_glued(
+    with_glued::<S, M, N>(
         seam,
         hull,
         joints,
@@ -385,7 +422,7 @@ fn with_value<S: Seam<N>, const N: usize>(
 
 /// A hull with the glued span of two hulls added, if any series reaches both states.
 #[inline(always)]
-fn with_glued<S: Seam<N>, const N: usize>(
+fn with_glued<S: Seam<N>, const M: u8, const N: usize>(
     seam: S,
     hull: Ends,
     joints: &Joints,
@@ -401,6 +438,7 @@ fn with_glued<S: Seam<N>, const N: usize>(
     requires right { IsPacked (lane_count N) (lanes_of N right.now) }
     requires worth { IsCellValue gluing.worth }
     requires takes { IsTaken N (S.takes gluing) left.now right.now }
+    requires mark { numbered_mark M ≡ joints.now.mark }
     ensures { (p : Pair) (q r : ℕ) (x : ℤ) (s : Span) → AreJoints p joints.now →
         expression gluing ≡ glue_of p q r x → StandFor hull s → StandFor result (span_hull s
         (glued_seen (sides N) p (with_hull N q left.now) (with_hull N r right.now) x cells)) }
@@ -411,8 +449,6 @@ fn with_glued<S: Seam<N>, const N: usize>(
     if !right.is_some() {
         return hull;
     }
-    joined(
-        hull,
-        marked(joints.mark, seam.glued(gluing, left, right), cells),
-    )
+    let glued = seam.glued(gluing, left, right);
+    joined(hull, marked(numbered_mark(M), glued, cells))
 }

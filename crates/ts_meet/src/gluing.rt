@@ -28,7 +28,7 @@ ghost use Rattle.ts_sweep.specs.Packed.{AreSome, IsPackOf, unpacked};
 ghost use Rattle.ts_sweep.specs.Sides.{BothEnds, lane_count, seen, sides};
 
 use crate::peaks::Peaks;
-use crate::side::{Side, are_plain, shown};
+use crate::side::{Side, are_plain, is_open_plain, shown};
 use crate::sums::{Clamped, Plain, Sums};
 use ts_automaton::{Op, Operator};
 use ts_glue::Part;
@@ -592,8 +592,8 @@ impl Gluing {
     fn is_fold_plain(self, left: Side, right: Side) -> bool
         ensures { result ≡ true → IsFoldPlain self (ends_in left) (ends_in right) }
     {
-        are_plain(left.d)
-            && are_plain(right.d)
+        is_open_plain(self.fold, left.d)
+            && is_open_plain(self.fold, right.d)
             && (!folds_held(self.trims, self.held_left) || are_plain(left.c))
             && (!folds_held(self.trims, self.held_right) || are_plain(right.c))
     }

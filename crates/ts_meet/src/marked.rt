@@ -1,6 +1,6 @@
 //! Marks on ends, and the hull of spans that are taken in one after the other.
 
-ghost use Rattle.std.specs.Prelude.{◌≡◌, ◌<ℤ◌, neg_ℤ};
+ghost use Rattle.std.specs.Prelude.{◌≡◌, ◌<ℤ◌, neg_ℤ, pos, true};
 ghost use Rattle.ts_base.specs.declared.span.Span.{Span};
 ghost use Rattle.ts_base.specs.Spans.{none_span, span_hull};
 ghost use Rattle.ts_automaton.specs.SpanRun.{marked_span};
@@ -20,8 +20,29 @@ pub(crate) fn marked(mark: Mark, e: Ends, n: u32) -> Ends
 {
     match mark {
         Mark::Same => e,
-        Mark::Zero | Mark::Cells => marked_ends(mark, e, n),
+        Mark::Zero | Mark::Cells => with_mark(mark, e, n),
     }
+}
+
+/// A mark that may change an infinite end, on both ends, and the hull of the two.
+#[inline(always)]
+fn with_mark(mark: Mark, e: Ends, n: u32) -> Ends
+    requires { IsSomeEnds e }
+    ensures { (s : Span) → IsPackOf e s → IsPackOf result (marked_span mark n s) }
+{
+    if are_finite(e) {
+        e
+    } else {
+        marked_ends(mark, e, n)
+    }
+}
+
+/// Whether no end is infinite outwards.
+#[inline(always)]
+fn are_finite(e: Ends) -> bool
+    ensures { result ≡ true → (e.below <ℤ pos 9223372036854775807) × (e.above <ℤ pos 9223372036854775807) }
+{
+    e.below < i64::MAX && e.above < i64::MAX
 }
 
 /// A mark that may change a number, on both ends, and the hull of the two.
@@ -115,7 +136,7 @@ pub(crate) fn hull_of_both(a: Ends, b: Ends) -> Ends
 
 /// End by end the greater.
 #[inline(always)]
-fn greater(a: Ends, b: Ends) -> Ends
+pub(crate) fn greater(a: Ends, b: Ends) -> Ends
     ensures { result ≡ max_ends a b }
 {
     Ends {

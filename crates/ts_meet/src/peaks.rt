@@ -1,9 +1,9 @@
 //! How far out the ends of the registers of many hulls lie: where that isn't far, no sum of theirs has to be clamped.
 
-ghost use Rattle.std.specs.Prelude.{◌≡◌, ◌<◌, ◌+◌, ◌≤◌, ℕ, true, [], get_or};
+ghost use Rattle.std.specs.Prelude.{◌≡◌, ◌<◌, ◌+◌, ◌≤◌, ◌≤ℤ◌, ℕ, true, [], get_or};
 ghost use Rattle.std.specs.Int.{int_max};
 ghost use Rattle.ts_automaton.specs.Registers.{EachOf};
-ghost use Rattle.ts_meet.specs.Peaks.{AreAllUnder, IsUnder, no_peaks, sides_of_peaks};
+ghost use Rattle.ts_meet.specs.Peaks.{AreAllUnder, IsBelow, IsUnder, no_peaks, sides_of_peaks};
 ghost use Rattle.ts_meet.specs.Settled.{ArePlaces, HavePlaces};
 ghost use Rattle.ts_meet.specs.Sides.{ends_in, side_of};
 ghost use Rattle.ts_row.specs.Rows.{lanes_of};
@@ -12,16 +12,18 @@ ghost use Rattle.ts_sweep.specs.Lanes.{some_lanes};
 ghost use Rattle.ts_sweep.specs.Packed.{IsPacked, ends};
 ghost use Rattle.ts_sweep.specs.Sides.{lane_count, sides};
 
+use crate::fold::SUM;
 use crate::joints::STATES;
+use crate::marked::{greater, nothing};
 use crate::side::Side;
 use ts_row::RowView;
 use ts_sweep::packed::{Ends, Packed, PackedHull};
 
-/// The greatest end of C, of D and of R.
+/// The greatest end of C and of R, and the greatest of each end of D.
 #[derive(Clone, Copy)]
 pub(crate) struct Peaks {
     pub(crate) c: i64,
-    pub(crate) d: i64,
+    pub(crate) d: Ends,
     pub(crate) r: i64,
 }
 
@@ -31,13 +33,13 @@ impl Peaks {
     pub(crate) fn none() -> Peaks {
         Peaks {
             c: i64::MIN,
-            d: i64::MIN,
+            d: nothing(),
             r: i64::MIN,
         }
     }
 
     /// Those of the hulls at `count` places from `from` on, where they are needed.
-    pub(crate) fn of<const N: usize>(
+    pub(crate) fn of<const O: u8, const N: usize>(
         needed: bool,
         hulls: &[PackedHull<N>],
         from: usize,
@@ -48,29 +50,34 @@ impl Peaks {
         ensures { needed ≡ true → AreAllUnder N result hulls.now from count }
     {
         if needed {
-            Peaks::over(hulls, from, count)
+            Peaks::over::<O, N>(hulls, from, count)
         } else {
             Peaks::none()
         }
     }
 
-    /// Those of the hulls at `count` places from `from` on.
+    /// Those of the hulls at `count` places from `from` on. `O` is the number of the operator that joins results: the
+    /// ends of R are watched where it adds.
     #[inline(never)]
-    fn over<const N: usize>(hulls: &[PackedHull<N>], from: usize, count: usize) -> Peaks
+    fn over<const O: u8, const N: usize>(
+        hulls: &[PackedHull<N>],
+        from: usize,
+        count: usize,
+    ) -> Peaks
         requires registers { 6 ≤ lane_count N }
         requires hulls { ArePlaces N (from + count) hulls.now }
         ensures { AreAllUnder N result hulls.now from count }
     {
         let mut all = Peaks::none();
         for i in 0..count {
-            all = all.with_hull(&hulls[from + i]);
+            all = all.with_hull::<O, N>(&hulls[from + i]);
         }
         all
     }
 
     /// Those with the ends of one more hull, if registers lie in it.
     #[inline(always)]
-    fn with_hull<const N: usize>(self, h: &PackedHull<N>) -> Peaks
+    fn with_hull<const O: u8, const N: usize>(self, h: &PackedHull<N>) -> Peaks
         requires registers { 6 ≤ lane_count N }
         requires packed { IsPacked (lane_count N) (lanes_of N h.now) }
         ensures kept { (a : EachOf Ends) → IsUnder self a → IsUnder result a }
@@ -80,19 +87,19 @@ impl Peaks {
         if !h.is_some() {
             return self;
         }
-        self.with_side(Side::of(h))
+        self.with_side::<O>(Side::of(h))
     }
 
     /// Those with the ends of one side more.
     #[inline(always)]
-    fn with_side(self, side: Side) -> Peaks
+    fn with_side<const O: u8>(self, side: Side) -> Peaks
         ensures kept { (a : EachOf Ends) → IsUnder self a → IsUnder result a }
         ensures added { IsUnder result (ends_in side) }
     {
         Peaks {
             c: peak(self.c, side.c),
-            d: peak(self.d, side.d),
-            r: peak(self.r, side.r),
+            d: greater(self.d, side.d),
+            r: watched::<O>(self.r, side.r),
         }
     }
 
@@ -104,8 +111,8 @@ impl Peaks {
         Side {
             c: both(self.c),
             e: both(self.c),
-            d: both(self.d),
-            f: both(self.d),
+            d: self.d,
+            f: self.d,
             r: both(self.r),
         }
     }
@@ -117,6 +124,15 @@ fn peak(top: i64, e: Ends) -> i64
     ensures { result ≡ int_max (int_max top e.below) e.above }
 {
     top.max(e.below).max(e.above)
+}
+
+/// A number that neither it nor an end of results is above, the least one where results are added.
+#[inline(always)]
+fn watched<const O: u8>(top: i64, e: Ends) -> i64
+    ensures still { top ≤ℤ result }
+    ensures now { IsBelow e result }
+{
+    if O == SUM { peak(top, e) } else { i64::MAX }
 }
 
 /// Both ends at one number.
@@ -131,7 +147,7 @@ fn both(top: i64) -> Ends
 }
 
 /// Those of each column of a row at `count` places from `from` on, where they are needed.
-pub(crate) fn peaks_of<const N: usize>(
+pub(crate) fn peaks_of<const O: u8, const N: usize>(
     needed: bool,
     states: u8,
     row: &RowView<'_, N>,
@@ -147,7 +163,7 @@ pub(crate) fn peaks_of<const N: usize>(
 {
     let mut all = [Peaks::none(); STATES];
     for q in 0..states {
-        all[q as usize] = Peaks::of(needed, row.column(q), from, count);
+        all[q as usize] = Peaks::of::<O, N>(needed, row.column(q), from, count);
     }
     all
 }

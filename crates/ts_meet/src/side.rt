@@ -3,6 +3,7 @@
 ghost use Rattle.std.specs.Prelude.{◌≡◌, ◌≤◌, ◌<ℤ◌, pos, true};
 ghost use Rattle.ts_automaton.specs.Registers.{value_in};
 ghost use Rattle.ts_glue.specs.Glue.{held_in, open_in};
+ghost use Rattle.ts_meet.specs.Joints.{IsOpenPlain};
 ghost use Rattle.ts_meet.specs.Sides.{ends_in, pointed_ends, shown_ends, side_of, turned};
 ghost use Rattle.ts_row.specs.Rows.{lanes_of};
 ghost use Rattle.ts_sweep.specs.Fronts.{ArePlain};
@@ -11,6 +12,7 @@ ghost use Rattle.ts_sweep.specs.Packed.{AreSome, name_ends};
 ghost use Rattle.ts_sweep.specs.Sides.{lane_count, sides};
 
 use crate::sums::Sums;
+use ts_automaton::Op;
 use ts_glue::Part;
 use ts_sweep::packed::{Ends, LOWER, Name, Packed, PackedHull, UPPER};
 
@@ -134,4 +136,17 @@ pub(crate) fn are_plain(e: Ends) -> bool
     ensures { result ≡ true → ArePlain e }
 {
     e.below.max(e.above) <= PLAIN
+}
+
+/// Whether cells that may be none leave a fold with a small number small: the upper end decides on the greatest, the
+/// lower one on the least, both on the sum.
+#[inline(always)]
+pub(crate) fn is_open_plain(fold: Op, e: Ends) -> bool
+    ensures { result ≡ true → IsOpenPlain fold e }
+{
+    match fold {
+        Op::Add => are_plain(e),
+        Op::Max => e.above <= PLAIN,
+        Op::Min => e.below <= PLAIN,
+    }
 }

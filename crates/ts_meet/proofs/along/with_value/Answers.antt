@@ -15,4 +15,4 @@ with_glued-requires g c =
     let alone = subst (λ z. (sides n ≡ BothEnds) ⊎ (z.wide ≡ false)) is given.alone in
     let taken : IsTaken n (g.S.Seam.takes c.with_worth.result) c.args.left.now c.args.right.now =
     λ h t. subst (λ z. g.S.Seam.takes z here there) is (g.met.S.Seam.takes_any a w here there (given.takes h t)) in
-    (search rules, (fits, (given.registers, (alone, (given.left, (given.right, (search rules, taken)))))))
+    (search rules, (fits, (given.registers, (alone, (given.left, (given.right, (search rules, (taken, given.mark))))))))

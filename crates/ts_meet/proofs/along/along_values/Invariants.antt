@@ -3,7 +3,7 @@ use Rattle.ts_glue.specs.Pairs.{Pair}
 use Rattle.ts_meet.specs.Along.{pair_along}
 use Rattle.ts_meet.specs.Joints.{AreJoints, IsGluing}
 use Rattle.ts_meet.specs.Sides.{StandFor}
-use Rattle.ts_meet.proofs.along.along_glued.Given as goal
+use Rattle.ts_meet.proofs.along.along_values.Given as goal
 
 abbrev pub invariant-loop-i : goal.invariant-loop-i
 invariant-loop-i g l =

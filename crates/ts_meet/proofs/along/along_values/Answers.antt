@@ -15,7 +15,7 @@ use Rattle.ts_meet.specs.Settled.{with_hull, with_hull_at}
 use Rattle.ts_meet.specs.Sides.{StandFor}
 use Rattle.ts_meet.proofs.Asking.{read_there}
 use Rattle.ts_meet.proofs.Places.{pair_more, pair_none}
-use Rattle.ts_meet.proofs.along.along_glued.Goals as goal
+use Rattle.ts_meet.proofs.along.along_values.Goals as goal
 
 pub loop-i-init : goal.loop-i-init
 loop-i-init g c p q r h is =
@@ -36,7 +36,7 @@ with_value-hull-requires g c =
     let is_right = read_there n right at _ c.index-right-from.is (let e = given.right.0 in omega (arith, e, place)) in
     let taken = subst (λ z. IsTaken n (g.S.Seam.takes c.args.gluing) z c.index-right-from.result) (sym is_left)
     (subst (IsTaken n (g.S.Seam.takes c.args.gluing) (get_or left at (nothing n))) (sym is_right) (given.takes i before)) in
-    (search rules, (given.fits, (given.registers, (given.alone, (here, (there, (subst IsCellValue (sym (to_z-of_z w64 x fits)) few, taken)))))))
+    (search rules, (given.fits, (given.registers, (given.alone, (here, (there, (subst IsCellValue (sym (to_z-of_z w64 x fits)) few, (taken, given.mark))))))))
 
 pub loop-i-preserved : goal.loop-i-preserved
 loop-i-preserved g c p q r h is =
