@@ -11,6 +11,6 @@ pub mod PlanLaws
 pub mod Flat
 pub mod StartLaws
 pub mod Moves
-pub mod Resets
 pub mod SeenRows
 pub mod Parts
+pub mod Columns

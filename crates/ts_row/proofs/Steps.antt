@@ -1,7 +1,7 @@
 -- A row that takes in moves, one after another.
-use Rattle.std.proofs.Common.{◌≡◌, inl, ℕ, suc, ◌+◌, ◌<◌, ◌≤◌, Bool, true, false, cond, nat_eq, ℤ, List, [], ◌++◌, length, take, drop, get_or, set, refl, sym, ap, subst, ◌∙◌, arith}
+use Rattle.std.proofs.Common.{◌≡◌, inl, ℕ, suc, ◌+◌, ◌<◌, ◌≤◌, Bool, true, false, cond, nat_eq, ℤ, List, [], length, get_or, set, refl, sym, ap, subst, ◌∙◌, arith}
 use Rattle.std.proofs.lemmas.Bool.{eqb-true, eqb-false}
-use Rattle.std.proofs.lemmas.List.{take_at, get_or_read, length-set, get_or-set_same, get_or-set_other}
+use Rattle.std.proofs.lemmas.List.{length-set, get_or-set_same, get_or-set_other}
 use Rattle.ts_automaton.specs.declared.regs.Hull.{Hull}
 use Rattle.ts_automaton.specs.Body.{Body, Move}
 use Rattle.ts_hull.specs.Hulls.{none, hull_of_both}
@@ -130,16 +130,3 @@ two_taken n s k w f g h a b c row p q same =
 -- a column that stays as it is until a move is taken in has taken it in from the start
 pub moved_from : (n : ℕ) (t : Between n) (on : On) (m : Move) (a b c : List (PackedHull n)) → b ≡ a → HasMoved n t on m b c → HasMoved n t on m a c
 moved_from n t on m a b c same moved = subst (λ z. HasMoved n t on m z c) same moved
-
--- a column that is lent from a row
-pub lent : (n r : ℕ) (items old : List (List (PackedHull n))) (slice behind borrowed : List (PackedHull n)) → items ≡ old → r < length old → slice ≡ behind →
-    behind ≡ borrowed → borrowed ≡ get_or items r borrowed → slice ≡ get_or old r []
-lent n r items old slice behind borrowed same inside e f is =
-    let long : length items ≡ length old = ap length same in
-    e ∙ f ∙ get_or_read items r borrowed (omega (arith, inside, long)) is [] ∙ ap (λ z. get_or z r []) same
-
--- and is written back into it
-pub written : (n r len : ℕ) (items old : List (List (PackedHull n))) (column behind : List (PackedHull n)) → items ≡ old → length column ≡ len →
-    set items r (take len (column ++ drop (length column) behind)) ≡ set old r column
-written n r len items old column behind same long =
-    ap (λ z. set z r (take len (column ++ drop (length column) behind))) same ∙ ap (set old r) (take_at column (drop (length column) behind) len long)

@@ -1,5 +1,5 @@
 -- A row of packed hulls: for each state a column, with a hull for each value of the cell.
-use Rattle.std.specs.Prelude.{◌≡◌, ℕ, ◌<◌, Bool, false, cond, nat_eq, ℤ, List, [], length, map, flat_map, get_or, slice_range}
+use Rattle.std.specs.Prelude.{◌≡◌, ℕ, ◌+◌, ◌*◌, ◌<◌, Bool, false, cond, nat_eq, ℤ, List, [], length, map, flat_map, get_or, slice_range}
 use Rattle.std.specs.List.{range_with_len}
 use Rattle.ts_base.specs.declared.letter.Letter.{Letter}
 use Rattle.ts_base.specs.declared.letter.Letter.TheVariants.{Less, Equal, Greater}
@@ -39,6 +39,17 @@ IsColumn n count hulls = ArePacked (lanes_of n) (nothing n) (lane_count n) count
 pub record IsRow (n states count : ℕ) (row : List (List (PackedHull n))) : Type 0 where
   pub len : length row ≡ states
   pub columns : (q : ℕ) → q < states → IsColumn n count (get_or row q [])
+
+-- the columns that lie one after another in a list: the first `count` of each `stride` places
+abbrev pub columns_in : {X : Type 0} → (states stride count : ℕ) → List X → List (List X)
+columns_in states stride count xs =
+    map (λ q. slice_range xs (q * stride) (q * stride + count)) (range_with_len 0 states)
+
+-- a row just made: so many copies of a hull for the first state, and of nothing for the others
+pub record IsReset (n states count : ℕ) (first : PackedHull n) (row : List (List (PackedHull n))) : Type 0 where
+  pub len : length row ≡ states
+  pub start : AreAll n first count (get_or row 0 [])
+  pub others : (q : ℕ) → 0 < q → q < states → AreAll n (nothing n) count (get_or row q [])
 
 -- the columns at the places from `from` up to `to`
 abbrev pub columns_part : {X : Type 0} → (from to : ℕ) → List (List X) → List (List X)

@@ -1,5 +1,5 @@
 -- A move of a state that is taken in.
-use Rattle.std.specs.Prelude.{◌≡◌, ℕ, ◌<◌, true, ℤ, pos, List, length, get_or}
+use Rattle.std.specs.Prelude.{◌≡◌, ℕ, ◌+◌, ◌<◌, true, ℤ, pos, List, ◌++◌, length, get_or, take, drop, slice_range}
 use Rattle.ts_automaton.specs.declared.regs.Hull.{Hull}
 use Rattle.ts_automaton.specs.Body.{Move}
 use Rattle.ts_hull.specs.Hulls.{hull_of_both}
@@ -46,6 +46,14 @@ MovesAs n t on k old new = MovesBy n t on (of_width (has_wide n) k) old new
 
 abbrev pub IsShapeTaken : (n : ℕ) → Between n → On → Shape → List (PackedHull n) → List (PackedHull n) → Type 0
 IsShapeTaken n t on s old new = (m : Move) → IsShapeOf (has_wide n) s (cut_of m) → HasMoved n t on m old new
+
+-- at a place of a list, as many hulls as the next cell has values have taken in a move
+pub record HasTakenAt (n : ℕ) (t : Between n) (on : On) (m : Move) (at : ℕ) (old new : List (PackedHull n))
+    : Type 0 where
+  pub column : List (PackedHull n)
+  pub packed : IsColumn n (count_in t.next_values) column
+  pub moved : HasMoved n t on m (slice_range old at (at + count_in t.next_values)) column
+  pub written : new ≡ take at old ++ (column ++ drop (count_in t.next_values) (drop at old))
 
 -- what is seen of what a move gives to state u of the next value w
 abbrev pub taken_to : (n : ℕ) → Between n → On → Move → ℤ → ℕ → Hull

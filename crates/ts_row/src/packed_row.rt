@@ -1,9 +1,8 @@
 //! A row of hulls in packed form.
 
-ghost use Rattle.std.specs.List.{All, remove_range};
-ghost use Rattle.std.specs.Prelude.{◌≡◌, ℕ, ◌<◌, ◌≤◌, [], IfOk, length, get_or, map};
-ghost use Rattle.ts_row.specs.Rows.{AreAll, IsRow, columns_part, nothing};
-ghost use Rattle.ts_sweep.specs.declared.packed.PackedHull.{PackedHull};
+ghost use Rattle.std.specs.List.{All, CopiedTo, SameBelow, SameFrom, remove_range};
+ghost use Rattle.std.specs.Prelude.{◌≡◌, ◌<◌, ◌≤◌, ◌+◌, ◌-◌, ◌*◌, [], IfOk, length, get_or, map, slice_range};
+ghost use Rattle.ts_row.specs.Rows.{IsReset, columns_part};
 
 use crate::row_view::RowView;
 use std::alloc::Global;
@@ -12,69 +11,26 @@ use ts_base::Memory;
 use ts_sweep::hull::Hull;
 use ts_sweep::packed::PackedHull;
 
-/// The hulls of a state, one for each value of the cell in rising order.
-#[derive(Drop)]
-pub(crate) struct Column<const N: usize> {
-    pub(crate) hulls: Vec<PackedHull<N>>,
-}
-
-impl<const N: usize> Model for Column<N> {
-    ghost use Rattle.std.specs.Prelude.{List};
-    ghost use Rattle.ts_sweep.specs.declared.packed.PackedHull.{PackedHull};
-
-    ghost Value = { List (PackedHull N) };
-
-    ghost view = { λ c. c.hulls.items };
-}
-
-/// The hulls of a cell: a column for each state of an automaton.
+/// The hulls of a cell: a column for each state of an automaton. The columns lie one after another in one list, each
+/// with room for `stride` hulls, of which it has the first `count`.
 #[derive(Drop)]
 pub struct PackedRow<const N: usize> {
-    pub(crate) columns: Vec<Column<N>>,
+    pub(crate) hulls: Vec<PackedHull<N>>,
+    pub(crate) states: u8,
+    pub(crate) stride: usize,
+    pub(crate) count: usize,
 }
 
 impl<const N: usize> Model for PackedRow<N> {
-    ghost use Rattle.std.specs.Prelude.{List};
+    ghost use Rattle.std.specs.Prelude.{◌≤◌, ◌*◌, List, length};
+    ghost use Rattle.ts_row.specs.Rows.{columns_in};
     ghost use Rattle.ts_sweep.specs.declared.packed.PackedHull.{PackedHull};
 
     ghost Value = { List (List (PackedHull N)) };
 
-    ghost view = { λ r. r.columns.items };
-}
+    ghost view = { λ r. columns_in r.states r.stride r.count r.hulls.items };
 
-impl<const N: usize> Column<N> {
-    /// A column without hulls.
-    fn empty(alloc: Global) -> Column<N>
-        ensures { length result ≡ 0 }
-    {
-        Column {
-            hulls: Vec::new(alloc),
-        }
-    }
-
-    /// Fills the column with `count` copies of a hull, in the same memory. After `Memory` it holds whatever hulls.
-    pub(crate) fn fill(&mut self, count: usize, hull: PackedHull<N>) -> Result<(), Memory>
-        requires lanes { N ≤ 64 }
-        ensures { IfOk result (λ u. AreAll N hull.entry count self.new) }
-    {
-        self.hulls.clear();
-        self.hulls.resize(count, hull)?;
-        Ok(())
-    }
-
-    /// Takes the hulls at the places from `from` up to `to` out; those after them move down.
-    fn take_out(&mut self, from: usize, to: usize)
-        requires { from ≤ to }
-        ensures { self.new ≡ remove_range self.old from to }
-    {
-        let count = self.hulls.len();
-        if to < count {
-            self.hulls.copy_within(to.., from);
-            self.hulls.truncate(count - (to - from));
-        } else {
-            self.hulls.truncate(from);
-        }
-    }
+    ghost invariant = { λ r. (r.states * r.stride ≤ length r.hulls.items) × (r.count ≤ r.stride) };
 }
 
 impl<const N: usize> PackedRow<N> {
@@ -83,7 +39,10 @@ impl<const N: usize> PackedRow<N> {
         ensures { length result ≡ 0 }
     {
         PackedRow {
-            columns: Vec::new(alloc),
+            hulls: Vec::new(alloc),
+            states: 0,
+            stride: 0,
+            count: 0,
         }
     }
 
@@ -95,34 +54,45 @@ impl<const N: usize> PackedRow<N> {
         ensures { result ≡ columns_part from to self.now }
     {
         RowView {
-            columns: &self.columns,
+            row: self,
             from,
             to,
         }
     }
 
-    /// Gives the row as many columns as there are states, with whatever hulls. After `Memory` it may have fewer.
-    fn with_columns(&mut self, alloc: Global, states: u8) -> Result<(), Memory>
-        ensures { IfOk result (λ u. length self.new ≡ states) }
+    /// The hulls of a state.
+    #[inline(always)]
+    pub(crate) fn column(&self, q: u8) -> &[PackedHull<N>]
+        requires { q < length self.now }
+        ensures { result.now ≡ get_or self.now q [] }
     {
-        self.columns.truncate(states as usize);
-        while self.columns.len() < states as usize {
-            self.columns.push(Column::empty(alloc))?;
-        }
-        Ok(())
+        column_at(&self.hulls, q, self.stride, self.count)
     }
 
-    /// Makes of the row a column of `count` hulls of nothing for each state, in the same memory. After `Memory` it
-    /// holds whatever hulls.
-    pub(crate) fn reset(&mut self, alloc: Global, states: u8, count: usize) -> Result<(), Memory>
+    /// Makes of the row a column of `count` hulls for each state, in the same memory: copies of `first` for the first
+    /// state, hulls of nothing for the others. After `Memory` it has no state.
+    pub(crate) fn reset(
+        &mut self,
+        states: u8,
+        count: usize,
+        first: PackedHull<N>,
+    ) -> Result<(), Memory>
+        requires some { 0 < states }
         requires lanes { N ≤ 64 }
-        ensures { IfOk result (λ u. (length self.new ≡ states)
-            × ((q : ℕ) → q < states → AreAll N (nothing N) count (get_or self.new q []))) }
+        ensures { IfOk result (λ u. IsReset N states count first.entry self.new) }
     {
-        self.with_columns(alloc, states)?;
-        for q in 0..states {
-            self.columns[q as usize].fill(count, PackedHull::nothing())?;
-        }
+        self.states = 0;
+        let all = match (states as usize).checked_mul(count) {
+            Some(all) => all,
+            None => return Err(Memory),
+        };
+        self.hulls.clear();
+        self.hulls.reserve(all)?;
+        self.hulls.resize(count, first)?;
+        self.hulls.resize(all, PackedHull::nothing())?;
+        self.states = states;
+        self.stride = count;
+        self.count = count;
         Ok(())
     }
 
@@ -132,8 +102,51 @@ impl<const N: usize> PackedRow<N> {
         requires { from ≤ to }
         ensures { self.new ≡ map (λ column. remove_range column from to) self.old }
     {
-        for q in 0..self.columns.len() {
-            self.columns[q].take_out(from, to);
+        if to < self.count {
+            for q in 0..self.states {
+                move_down(&mut self.hulls, q, self.stride, self.count, from, to);
+            }
+            self.count -= to - from;
+        } else {
+            self.count = self.count.min(from);
         }
     }
+}
+
+/// The first `count` of the `stride` hulls of a state.
+#[inline(always)]
+fn column_at<const N: usize>(
+    hulls: &[PackedHull<N>],
+    q: u8,
+    stride: usize,
+    count: usize,
+) -> &[PackedHull<N>]
+    requires { q * stride + count ≤ length hulls.now }
+    ensures { result.now ≡ slice_range hulls.now (q * stride) (q * stride + count) }
+{
+    let from = q as usize * stride;
+    &hulls[from..from + count]
+}
+
+/// Moves the hulls of a state from place `to` on down to place `from`. It has `count` hulls.
+fn move_down<const N: usize>(
+    hulls: &mut Vec<PackedHull<N>>,
+    q: u8,
+    stride: usize,
+    count: usize,
+    from: usize,
+    to: usize,
+)
+    requires order { from ≤ to }
+    requires between { to < count }
+    requires inside { q * stride + count ≤ length hulls.old.items }
+    ensures len { length hulls.new.items ≡ length hulls.old.items }
+    ensures copied { CopiedTo hulls.old.items hulls.new.items (q * stride + to) (q * stride + from)
+        (q * stride + count - (q * stride + to)) }
+    ensures below { SameBelow hulls.old.items hulls.new.items (q * stride + from) }
+    ensures above { SameFrom hulls.old.items hulls.new.items
+        (q * stride + from + (q * stride + count - (q * stride + to))) }
+{
+    let start = q as usize * stride;
+    hulls.copy_within(start + to..start + count, start + from);
 }

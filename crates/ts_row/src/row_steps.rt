@@ -1,6 +1,6 @@
 //! A row from the row before, state by state.
 
-ghost use Rattle.std.specs.Prelude.{◌≡◌, ℕ, ◌<◌, ◌≤◌, IfOk, false, true, get_or, length};
+ghost use Rattle.std.specs.Prelude.{◌≡◌, ℕ, ◌+◌, ◌*◌, ◌<◌, ◌≤◌, IfOk, false, true, get_or, length, slice_range};
 ghost use Rattle.ts_automaton.specs.Body.{move_of};
 ghost use Rattle.ts_automaton.specs.Formula.{is_zero};
 ghost use Rattle.ts_automaton.specs.Registers.{rests};
@@ -9,7 +9,7 @@ ghost use Rattle.ts_hull.specs.Cuts.{cut_of};
 ghost use Rattle.ts_hull.specs.Sealed.{move_at};
 ghost use Rattle.ts_row.specs.Plans.{IsPlanOf, IsShapeOf, IsStatePlan, cut_at, is_equal};
 ghost use Rattle.ts_row.specs.Rows.{HasTaken, IsColumn, IsRow, hull_in, lanes_of, next_hull, nothing, seen_gives};
-ghost use Rattle.ts_row.specs.Takings.{HasMoved, IsCovered, count_in, taken_to, two_taken_to, value_in};
+ghost use Rattle.ts_row.specs.Takings.{HasMoved, HasTakenAt, IsCovered, count_in, taken_to, two_taken_to, value_in};
 ghost use Rattle.ts_sweep.specs.Columns.{hull_at};
 ghost use Rattle.ts_sweep.specs.Fronts.{IsMoveFor};
 ghost use Rattle.ts_sweep.specs.Here.{here_move};
@@ -28,6 +28,7 @@ use ts_base::{Letter, Memory};
 use ts_sweep::column::Dense;
 use ts_sweep::cover::cover_of;
 use ts_sweep::here::take_equal;
+use ts_sweep::hull::Hull;
 use ts_sweep::packed::PackedHull;
 use ts_sweep::swept::take_swept;
 
@@ -119,6 +120,30 @@ fn take_turn<const N: usize>(m: Planned<'_>, t: &Between<'_, N>, next: &mut [Pac
     take_by_pairs(m.turn, m.on, t, next);
 }
 
+/// Takes a move into the column of the state that it leads to, of columns that lie one after another, each with room
+/// for `stride` hulls.
+fn take_at<const N: usize>(
+    m: Planned<'_>,
+    t: &Between<'_, N>,
+    stride: usize,
+    hulls: &mut [PackedHull<N>],
+)
+    requires covered { IsCovered N t.now }
+    requires width { rests is_zero (has_wide N) (move_of m.turn.now).to ≡ true }
+    requires suits { IsMoveFor (sides N) (move_of m.turn.now) }
+    requires shape { IsShapeOf (has_wide N) m.shape
+        (cut_of (here_move (is_equal m.on.letter) (move_of m.turn.now))) }
+    requires inside { m.turn.now.next * stride + count_in t.now.next_values ≤ length hulls.old }
+    requires packed { IsColumn N (count_in t.now.next_values) (slice_range hulls.old (m.turn.now.next * stride)
+        (m.turn.now.next * stride + count_in t.now.next_values)) }
+    ensures { HasTakenAt N t.now m.entry.on (move_of m.entry.turn.now) (m.entry.turn.now.next * stride) hulls.old
+        hulls.new }
+{
+    let from = m.turn.next as usize * stride;
+    let to = from + t.next_values.values.len();
+    take_turn(m, t, &mut hulls[from..to]);
+}
+
 /// Takes a move into the row, at the state that it leads to.
 fn take_move<const N: usize>(m: Planned<'_>, t: &Between<'_, N>, next: &mut PackedRow<N>)
     requires covered { IsCovered N t.now }
@@ -132,7 +157,7 @@ fn take_move<const N: usize>(m: Planned<'_>, t: &Between<'_, N>, next: &mut Pack
     ensures taken { HasTaken N (length next.old) (count_in t.now.next_values) (value_in t.now.next_values)
         (taken_to N t.now m.entry.on (move_of m.entry.turn.now)) next.old next.new }
 {
-    take_turn(m, t, &mut next.columns[m.turn.next as usize].hulls);
+    take_at(m, t, next.stride, &mut next.hulls);
 }
 
 /// Takes two moves into the row.
@@ -262,7 +287,7 @@ pub fn next_row<const N: usize>(
         ≡ seen_hull (sides N) (next_hull a.now (count_in values.entry) (value_in values.entry) (hull_in N before.now)
         (value_in next_values.entry j) t))) }
 {
-    next.reset(alloc, a.states(), next_values.values.len())?;
+    next.reset(a.states(), next_values.values.len(), PackedHull::nothing())?;
     for q in 0..a.states() {
         take_state(
             a,

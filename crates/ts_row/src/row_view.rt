@@ -3,14 +3,14 @@
 ghost use Rattle.std.specs.Prelude.{◌≡◌, ◌<◌, [], get_or, length};
 ghost use Rattle.ts_row.specs.Rows.{nothing};
 
-use crate::packed_row::Column;
+use crate::packed_row::PackedRow;
 use std::marker::Model;
 use ts_sweep::packed::PackedHull;
 
 /// The hulls of a packed row at some of its places, lent.
 #[derive(Drop)]
 pub struct RowView<'a, const N: usize> {
-    pub(crate) columns: &'a [Column<N>],
+    pub(crate) row: &'a PackedRow<N>,
     pub(crate) from: usize,
     pub(crate) to: usize,
 }
@@ -23,9 +23,9 @@ impl<'a, const N: usize> Model for RowView<'a, N> {
 
     ghost Value = { List (List (PackedHull N)) };
 
-    ghost view = { λ v. columns_part v.from v.to v.columns.now };
+    ghost view = { λ v. columns_part v.from v.to v.row.now };
 
-    ghost invariant = { λ v. (v.from ≤ v.to) × All (λ column. v.to ≤ length column) v.columns.now };
+    ghost invariant = { λ v. (v.from ≤ v.to) × All (λ column. v.to ≤ length column) v.row.now };
 }
 
 impl<'a, const N: usize> RowView<'a, N> {
@@ -35,8 +35,7 @@ impl<'a, const N: usize> RowView<'a, N> {
         requires { q < length self.now }
         ensures { result.now ≡ get_or self.now q [] }
     {
-        let column = &self.columns[q as usize];
-        &column.hulls[self.from..self.to]
+        &self.row.column(q)[self.from..self.to]
     }
 
     /// The hull of a state at place `i`.
@@ -46,7 +45,6 @@ impl<'a, const N: usize> RowView<'a, N> {
         requires place { i < length (get_or self.now q []) }
         ensures { result.now ≡ get_or (get_or self.now q []) i (nothing N) }
     {
-        let column = &self.columns[q as usize];
-        &column.hulls[self.from + i]
+        &self.row.column(q)[self.from + i]
     }
 }

@@ -75,7 +75,6 @@ pub fn start_row<const N: usize>(
 {
     let states = a.states();
     let hull = packed_start::<N>(a.start().regs);
-    row.reset(alloc, states, count)?;
-    row.columns[0].fill(count, hull)?;
+    row.reset(states, count, hull)?;
     Ok(())
 }

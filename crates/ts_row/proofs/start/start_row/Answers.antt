@@ -1,4 +1,4 @@
-use Rattle.std.proofs.Common.{◌≡◌, ℕ, ◌<◌, true, set, ap, sym, subst, rules}
+use Rattle.std.proofs.Common.{◌≡◌, ℕ, ◌<◌, true, ap, sym, subst, rules}
 use Rattle.ts_automaton.specs.SpanRun.{one_hull}
 use Rattle.ts_automaton.specs.Registers.{rests}
 use Rattle.ts_automaton.specs.Typing.{each_is, is_constant, is_number_zero}
@@ -24,10 +24,9 @@ packed_start-hull-requires g c = (
 
 pub returns : goal.returns
 returns g c =
-    let new = set c.row.inside.columns.items 0 c.fill.new.self in
+    let new = c.reset.new.self in
     subst (λ s. IsRow g.row.N s c.args.count new × ((t j : ℕ) → t < s → j < c.args.count → hull_in g.row.N new t j
     ≡ seen_hull (sides g.row.N) (start_hull c.args.a.now t)))
     c.states-states.ensures.count
-    (started g.row.N c.states-states.result c.args.count c.args.a.now c.reset.new.self c.packed_start-hull.result c.fill.new.self new c.requires.registers
-    c.states-states.ensures.some c.in_ok-reset.ensures.0 c.in_ok-reset.ensures.1 (ap (λ z. set z 0 c.fill.new.self) c.row.view_is) c.in_ok-fill.ensures
+    (started g.row.N c.states-states.result c.args.count c.args.a.now c.packed_start-hull.result new c.requires.registers c.in_ok-reset.ensures
     (subst (λ z. IsHull g.row.N (hull_of (one_hull z)) c.packed_start-hull.result) (ap (λ z. z.regs) c.start.ensures.value) c.packed_start-hull.ensures))
