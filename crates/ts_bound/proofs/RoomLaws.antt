@@ -1,11 +1,11 @@
 -- What the rows of machines take in memory: cell by cell, machine by machine, in numbers that have a greatest.
 use Rattle.std.proofs.Common.{◌≡◌, ℕ, ℤ, ◌+◌, ◌<◌, ◌++◌, List, [], ◌∷◌, Option, length, map, take, get_or, sym, ap, ◌∙◌, arith}
-use Rattle.std.proofs.lemmas.List.{length-take-le, map-append, take_more}
+use Rattle.std.proofs.lemmas.List.{length-map, length-take-le, map-append, take_more}
 use Rattle.ts_base.specs.declared.range.Range.{Range}
 use Rattle.ts_bound.specs.TermSpans.{Automata, automata_of}
 use Rattle.ts_glue.specs.declared.machine.Machine.{Machine}
 use Rattle.ts_bound.specs.Boxes.{Box}
-use Rattle.ts_bound.specs.Room.{all_bytes, counted_at, row_bytes, saturated, values_from}
+use Rattle.ts_bound.specs.Room.{bytes_at, bytes_from, counted_at, saturated, values_from}
 
 -- one by one they make what all make at once
 
@@ -27,9 +27,17 @@ values_append w k (c ∷ cells) x =
     let here = ap (λ n. counted_at w n x) at in
     omega (arith, more, here)
 
-bytes_append : (ms : List Automata) (m : Automata) (cells : Box) → all_bytes (ms ++ m ∷ []) cells ≡ all_bytes ms cells + row_bytes m cells
-bytes_append [] m cells = omega (arith)
-bytes_append (a ∷ ms) m cells = let more = bytes_append ms m cells in omega (arith, more)
+bytes_append : (named : List ℕ) (k : ℕ) (ms : List Automata) (m : Automata) (cells : Box) →
+    bytes_from named k (ms ++ m ∷ []) cells ≡ bytes_from named k ms cells + bytes_at named (k + length ms) m cells
+bytes_append named k [] m cells =
+    let at : k ≡ k + length {A = Automata} [] = omega (arith) in
+    let here = ap (λ n. bytes_at named n m cells) at in
+    omega (arith, here)
+bytes_append named k (a ∷ ms) m cells =
+    let more = bytes_append named (k + 1) ms m cells in
+    let at : (k + 1) + length ms ≡ k + length (a ∷ ms) = omega (arith) in
+    let here = ap (λ n. bytes_at named n m cells) at in
+    omega (arith, more, here)
 
 -- one cell more
 pub one_cell_more : (w : Option Range) (cells : Box) (i : ℕ) (x : List ℤ) (a q r : ℕ) → i < length cells → x ≡ get_or cells i x →
@@ -44,13 +52,18 @@ one_cell_more w cells i x a q r inside is made here both =
     one_more _ _ a r made (both ∙ ap (λ n. saturated (a + n)) here) ∙ ap saturated (sym all)
 
 -- one machine more
-pub one_machine_more : (ms : List Machine) (cells : Box) (i : ℕ) (m : Machine) (a q r : ℕ) → i < length ms → m ≡ get_or ms i m →
-    a ≡ saturated (all_bytes (map automata_of (take i ms)) cells) → q ≡ saturated (row_bytes (automata_of m) cells) → r ≡ saturated (a + q) →
-    r ≡ saturated (all_bytes (map automata_of (take (i + 1) ms)) cells)
-one_machine_more ms cells i m a q r inside is made here both =
+pub one_machine_more : (named : List ℕ) (ms : List Machine) (cells : Box) (i : ℕ) (m : Machine) (a q r : ℕ) → i < length ms → m ≡ get_or ms i m →
+    a ≡ saturated (bytes_from named 0 (map automata_of (take i ms)) cells) → q ≡ saturated (bytes_at named i (automata_of m) cells) →
+    r ≡ saturated (a + q) → r ≡ saturated (bytes_from named 0 (map automata_of (take (i + 1) ms)) cells)
+one_machine_more named ms cells i m a q r inside is made here both =
+    let front = map automata_of (take i ms) in
+    let count : length front ≡ i = length-map (take i ms) automata_of ∙ length-take-le i ms (omega (arith, inside)) in
+    let at : 0 + length front ≡ i = omega (arith, count) in
     let more : take (i + 1) ms ≡ take i ms ++ m ∷ [] =
     take_more ms i m inside ∙ ap (λ y. take i ms ++ y ∷ []) (sym is) in
-    let all : map automata_of (take (i + 1) ms) ≡ map automata_of (take i ms) ++ automata_of m ∷ [] =
+    let all : map automata_of (take (i + 1) ms) ≡ front ++ automata_of m ∷ [] =
     ap (map automata_of) more ∙ map-append automata_of (take i ms) (m ∷ []) in
-    sum_saturated _ _ a q r made here both
-    ∙ ap saturated (sym (ap (λ ts. all_bytes ts cells) all ∙ bytes_append (map automata_of (take i ms)) (automata_of m) cells))
+    let whole : bytes_from named 0 (map automata_of (take (i + 1) ms)) cells ≡ bytes_from named 0 front cells + bytes_at named i (automata_of m) cells =
+    ap (λ ts. bytes_from named 0 ts cells) all ∙ bytes_append named 0 front (automata_of m) cells
+    ∙ ap (λ n. bytes_from named 0 front cells + bytes_at named n (automata_of m) cells) at in
+    sum_saturated _ _ a q r made here both ∙ ap saturated (sym whole)

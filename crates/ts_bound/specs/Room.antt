@@ -1,5 +1,6 @@
 -- How much memory the rows of machines may take that are kept from box to box.
-use Rattle.std.specs.Prelude.{ℕ, ℤ, ◌+◌, ◌*◌, List, [], ◌∷◌, Option, if◌then◌else◌, length, max, min}
+use Rattle.std.specs.Prelude.{ℕ, ℤ, ◌+◌, ◌*◌, List, [], ◌∷◌, Option, if◌then◌else◌, length, max, min, nat_eq}
+use Rattle.std.specs.List.{list_any}
 use Rattle.ts_base.specs.declared.range.Range.{Range}
 use Rattle.ts_automaton.specs.Body.{Body}
 use Rattle.ts_bound.specs.Blocks.{back_states}
@@ -34,10 +35,14 @@ row_bytes m cells =
     values_from m.window 1 cells
     * ((length m.forward.states + back_states m.pair) * hull_bytes m.forward + listed_bytes)
 
--- what those of several take
-abbrev pub all_bytes : List Automata → Box → ℕ
-all_bytes [] cells = 0
-all_bytes (m ∷ ms) cells = row_bytes m cells + all_bytes ms cells
+-- what those of a machine at place k take, if it is at one of the places that are named
+abbrev pub bytes_at : List ℕ → ℕ → Automata → Box → ℕ
+bytes_at named k m cells = if list_any (λ place. nat_eq place k) named then row_bytes m cells else 0
+
+-- what those of several take together, the first of these at place k
+abbrev pub bytes_from : List ℕ → ℕ → List Automata → Box → ℕ
+bytes_from named k [] cells = 0
+bytes_from named k (m ∷ ms) cells = bytes_at named k m cells + bytes_from named (k + 1) ms cells
 
 -- each row may have memory for twice its hulls and values, and all together for 200,000,000 bytes
 abbrev pub most_bytes : ℕ

@@ -1,10 +1,11 @@
 //! Whether the rows of all machines may be kept from box to box.
 
-ghost use Rattle.std.specs.Prelude.{◌≡◌, ◌≤◌, ◌+◌, ◌*◌, ◌↔◌, IsTrue, length, map};
+ghost use Rattle.std.specs.List.{list_any};
+ghost use Rattle.std.specs.Prelude.{◌≡◌, ◌≤◌, ◌+◌, ◌*◌, ◌↔◌, IsTrue, length, map, nat_eq};
 ghost use Rattle.ts_bound.specs.Blocks.{back_states};
 ghost use Rattle.ts_bound.specs.Looks.{is_looked};
 ghost use Rattle.ts_bound.specs.TermSpans.{automata_of};
-ghost use Rattle.ts_bound.specs.Room.{all_bytes, counted_at, hull_bytes, most_bytes, row_bytes};
+ghost use Rattle.ts_bound.specs.Room.{bytes_at, bytes_from, counted_at, hull_bytes, most_bytes, row_bytes};
 ghost use Rattle.ts_bound.specs.Room.{saturated, values_from};
 ghost use Rattle.ts_glue.specs.Machines.{forward_of, pair_of};
 
@@ -29,16 +30,34 @@ const MOST: u64 = 200_000_000;
 /// made in the same memory.
 pub(crate) const SMALL_ROW: usize = 16;
 
-/// Whether the rows of these machines, of a box with at most these values in its cells, take no more. A machine with a
-/// window has rows of the cells of it alone.
-pub fn has_room(machines: &[Machine], cells: &[Domain]) -> bool
-    ensures { IsTrue result ↔ (all_bytes (map automata_of machines.now) cells.now ≤ most_bytes) }
+/// Whether the rows of the machines at the places `named`, counted from 0, of a box with at most these values in its
+/// cells, take no more. A machine with a window has rows of the cells of it alone.
+pub fn has_room(machines: &[Machine], named: &[u32], cells: &[Domain]) -> bool
+    ensures { IsTrue result ↔ (bytes_from named.now 0 (map automata_of machines.now) cells.now ≤ most_bytes) }
 {
     let mut bytes = 0;
-    for m in machines {
-        bytes = sum(bytes, bytes_of(m, cells));
+    for place in 0..machines.len() {
+        bytes = sum(bytes, bytes_at(named, place, &machines[place], cells));
     }
     bytes <= MOST / 2
+}
+
+/// How many bytes the rows of the machine at this place take, if the place is named.
+fn bytes_at(named: &[u32], place: usize, m: &Machine, cells: &[Domain]) -> u64
+    ensures { result ≡ saturated (bytes_at named.now place (automata_of m.now) cells.now) }
+{
+    if is_named(named, place) {
+        bytes_of(m, cells)
+    } else {
+        0
+    }
+}
+
+/// Whether the place is named.
+fn is_named(named: &[u32], place: usize) -> bool
+    ensures { result ≡ list_any (λ at. nat_eq at place) named.now }
+{
+    named.iter().any(|at| *at as usize == place)
 }
 
 /// How many bytes the rows of a machine take, of a box with these cells.

@@ -72,7 +72,8 @@ impl Checker {
         ensures checked { IfOk result (λ c. HasChecked [] c) }
     {
         let root = Boxed::new(alloc, &m.cells)?;
-        let tables = AllTables::owning(alloc, p.into_machines(), &m.cells)?;
+        let machines = p.into_machines();
+        let tables = AllTables::owning(alloc, machines, &m.requirements, m.objective, &m.cells)?;
         Ok(Checker {
             alloc,
             model: m,

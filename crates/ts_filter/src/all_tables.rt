@@ -3,6 +3,7 @@
 ghost use Rattle.std.specs.Prelude.{◌≡◌, ◌↔◌, ◌<◌, ◌≤◌, Contains, IfOk, IsTrue, OnOk, None, length, map};
 ghost use Rattle.std.specs.List.{AllByRecursion};
 ghost use Rattle.ts_base.specs.Limits.{too_many};
+ghost use Rattle.ts_bound.specs.Room.{bytes_from, most_bytes};
 ghost use Rattle.ts_bound.specs.TermSpans.{LooksIn, automata_of, term_span};
 ghost use Rattle.ts_domain.specs.BoxSeries.{IsCell, cell_of};
 ghost use Rattle.ts_filter.specs.Boxes.{Box, only};
@@ -13,7 +14,7 @@ ghost use Rattle.ts_filter.specs.KeptCells.{AreKept};
 ghost use Rattle.ts_filter.specs.KeptValue.{IsKept};
 ghost use Rattle.ts_filter.specs.MachineSpans.{spans_of};
 ghost use Rattle.ts_filter.specs.OfTerm.{OfTerm};
-ghost use Rattle.ts_filter.specs.Tables.{AreRowsOfEach, machines_of};
+ghost use Rattle.ts_filter.specs.Tables.{AreRowsOfEach, machines_of, named_terms};
 ghost use Rattle.ts_filter.specs.declared.bar.Bar.TheVariants.{Better};
 
 use crate::bar::Bar;
@@ -58,33 +59,38 @@ impl<'a> Model for AllTables<'a> {
 }
 
 impl<'a> AllTables<'a> {
-    /// The tables of these machines, of which nothing is known yet. The boxes that will be asked have no more values
-    /// than `cells`: that decides whether rows are kept, or made again for each question.
+    /// The tables of these machines, of which nothing is known yet. Questions will be put to the terms alone that the
+    /// requirements or the objective name, of boxes with no more values than `cells`: that decides whether rows are
+    /// kept, or made again for each question.
     pub fn new(
         alloc: Global,
         machines: &'a [Machine],
+        requirements: &[Require],
+        objective: Option<u32>,
         cells: &[Domain],
     ) -> Result<AllTables<'a>, Memory>
         ensures { IfOk result (λ t. t.machines ≡ map automata_of machines.now) }
     {
+        let keeps = keeps_rows(alloc, machines, requirements, objective, cells)?;
         let mut each = Vec::new(alloc);
         for machine in machines {
             each.push(BoxTables::new(alloc, HeldMachine::Lent(machine)))?;
         }
-        let keeps = has_room(machines, cells);
         Ok(AllTables::of(alloc, each, keeps))
     }
 
-    /// The tables of these machines, which they own, of which nothing is known yet. The boxes that will be asked about
-    /// have no more values than `cells`.
+    /// The tables of these machines, which they own, of which nothing is known yet. Questions will be put to the terms
+    /// alone that the requirements or the objective name, of boxes with no more values than `cells`.
     pub fn owning(
         alloc: Global,
         machines: Vec<Machine>,
+        requirements: &[Require],
+        objective: Option<u32>,
         cells: &[Domain],
     ) -> Result<AllTables<'a>, Memory>
         ensures { IfOk result (λ t. t.machines ≡ map automata_of machines.items) }
     {
-        let keeps = has_room(&machines, cells);
+        let keeps = keeps_rows(alloc, &machines, requirements, objective, cells)?;
         let mut each = Vec::new(alloc);
         for machine in machines {
             each.push(BoxTables::new(alloc, HeldMachine::Own(machine)))?;
@@ -324,4 +330,34 @@ impl<'a> AllTables<'a> {
             others: Others::none(alloc),
         }
     }
+}
+
+/// Whether the rows of the terms that are named have room, of boxes with no more values than `cells`.
+fn keeps_rows(
+    alloc: Global,
+    machines: &[Machine],
+    requirements: &[Require],
+    objective: Option<u32>,
+    cells: &[Domain],
+) -> Result<bool, Memory>
+    ensures { IfOk result (λ keeps. IsTrue keeps
+        ↔ (bytes_from (named_terms requirements.now objective) 0 (map automata_of machines.now) cells.now ≤ most_bytes)) }
+{
+    let named = named_terms(alloc, requirements, objective)?;
+    Ok(has_room(machines, &named, cells))
+}
+
+/// The terms that the requirements name, and that of the objective.
+fn named_terms(
+    alloc: Global,
+    requirements: &[Require],
+    objective: Option<u32>,
+) -> Result<Vec<u32>, Memory>
+    ensures { IfOk result (λ named. named.items ≡ named_terms requirements.now objective) }
+{
+    let mut named: Vec<u32> = requirements.iter().map(|r| r.term).collect(alloc)?;
+    if let Some(term) = objective {
+        named.push(term)?;
+    }
+    Ok(named)
 }

@@ -19,7 +19,7 @@
 //! cuts(Goal::Maximise, Bar::AsGood(Ext::Int(5)), span)       // false: 5 is as good
 //! next_drop(alloc, &machines, &requirements, &cells)?        // a value that no series with it meets, if one is known
 //!
-//! let mut tables = AllTables::new(alloc, &machines, &domains)?;
+//! let mut tables = AllTables::new(alloc, &machines, &requirements, objective, &domains)?;
 //! tables.bring(alloc, &cells)?;                              // no row is made before it is asked for
 //! tables.refuted(alloc, &requirement, n, &cells)?;           // asks for forward rows alone, since cell n is the last
 //! cells.remove(k, v)?;

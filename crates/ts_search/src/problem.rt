@@ -168,8 +168,8 @@ impl<'a> Problem<'a> {
     }
 }
 
-/// The tables of the terms of a model whose program this is. They are kept from box to box while those of the model's
-/// box take little memory.
+/// The tables of the terms of a model whose program this is. They are kept from box to box while those of the terms
+/// that are named, of the model's box, take little memory.
 pub(crate) fn tables_of<'a>(
     alloc: Global,
     m: &Model,
@@ -178,5 +178,5 @@ pub(crate) fn tables_of<'a>(
     requires { IsProgramOf p.now m.now }
     ensures { IfOk result (λ t. t.machines ≡ automata_in (model_parts m.now)) }
 {
-    AllTables::new(alloc, p.machines(), &m.cells)
+    AllTables::new(alloc, p.machines(), &m.requirements, m.objective, &m.cells)
 }

@@ -56,7 +56,7 @@ pub(super) fn drop_by_kept(
     requires terms { AllByRecursion (λ r. r.term < 1) requirements.now }
 {
     let kept = singles(alloc, cells)?;
-    let mut tables = AllTables::new(alloc, slice::from_ref(m), &[])?;
+    let mut tables = AllTables::new(alloc, slice::from_ref(m), requirements, None, &[])?;
     tables.bring(alloc, cells)?;
     tables.next_drop(alloc, requirements, cells, &kept)
 }

@@ -13,8 +13,8 @@ returns-clause-checked c = subst (HasChecked []) (search rules) (none_checked (m
 
 pub invariant_of-result : goal.invariant_of-result
 invariant_of-result c = (
-  tables_are c.in_ok-tables.tables.machines c.into_machines.result.items c.args.p c.args.m c.in_ok-tables.ensures
-      (ap (λ (v : Vec Machine). v.items) c.into_machines.ensures) c.requires.program c.requires.whole,
+  tables_are c.in_ok-tables.tables.machines c.into_machines-machines.result.items c.args.p c.args.m c.in_ok-tables.ensures
+      (ap (λ (v : Vec Machine). v.items) c.into_machines-machines.ensures) c.requires.program c.requires.whole,
   c.requires.limits.box,
   new_sized (model_parts c.args.m) c.new-3.result c.in_ok-root.root c.deref.result.now c.new-3.ensures c.in_ok-root.ensures c.deref.ensures.value,
 )
