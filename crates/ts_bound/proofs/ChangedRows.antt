@@ -43,9 +43,10 @@ module _ (c : Change) (b later : Box) (d : IsChange c b later) where
 
   -- those of the backward rows
 
-  pub behind_left : (p : Option Pair) (ends : Sides) (old new : Stack) (before now : List ℤ) → form_sides old.planned.form ≡ ends → IsPlannedBack p old.planned →
-      AreBehind p ends b old.known → GoOnBehind p ends b old.laid → AreKeptBehind p ends b old.kept → get_or b (c.last - 1) [] ≡ before →
-      get_or (reverse later) (c.count - c.last) [] ≡ now → IsLeft (c.count - c.last) (c.count - c.first) c.gone_last before now old new →
+  pub behind_left : (p : Option Pair) (ends : Sides) (old new : Stack) (before now : List ℤ) → form_sides old.planned.form ≡ ends →
+      IsPlannedBack p old.planned → AreBehind p ends b old.known → GoOnBehind p ends b old.laid → AreKeptBehind p ends b old.kept →
+      get_or b (c.last - 1) [] ≡ before → get_or (reverse later) (c.count - c.last) [] ≡ now →
+      IsLeft (c.count - c.last) (c.count - c.first) c.gone_last before now old new →
       AreBehind p ends later new.known × GoOnBehind p ends later new.laid × AreKeptBehind p ends later new.kept
   behind_left None ends old new before now is plan h g k e e' f = (tt, tt, tt)
   behind_left (Some p) ends old new before now is plan h g k e e' f =
