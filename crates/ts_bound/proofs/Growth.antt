@@ -30,7 +30,8 @@ use Rattle.ts_bound.specs.NextRow.{Source, source, hull_from, next_hull, states_
 use Rattle.ts_bound.specs.HullTables.{hull_at, cells_before, cells_after, values_at}
 use Rattle.ts_bound.specs.Looks.{place_in}
 use Rattle.ts_bound.specs.TermSpans.{Automata, standing_in, span_of_all, finish_spans, glued_spans, spans_at, inner_value_span, inner_span, term_span}
-use Rattle.ts_bound.specs.Laws.{Splits, AreAutomata, AreWithin, SmallerBoxesAreWithin}
+use Rattle.ts_bound.specs.Boxes.{IsInside}
+use Rattle.ts_bound.specs.Laws.{Splits, AreAutomata, SmallerBoxesAreWithin}
 use Rattle.ts_bound.proofs.Reached.{Any, any_of_map, any_flat, any_range, any_flat_range, any_mapped, spans_take}
 use Rattle.ts_bound.proofs.TableLaws.{all_range}
 
@@ -165,7 +166,7 @@ next_within b v q us ws h k sub w =
     (any_range (λ s. HullWithin (spans_of (hull_from b v q (source u p (h u p)))) (spans_of (hull_from b v q s))) (λ p. source u p (k u p)) 0
     (length b.states) p (omega arith) (omega (arith, lt)) (given_within b v q u p (h u p) (k u p) (w u p)))))))))
 
-pub hull_grows : (b : Body) (before wider : List (List ℤ)) (v : ℤ) (q : ℕ) → AreWithin before wider →
+pub hull_grows : (b : Body) (before wider : List (List ℤ)) (v : ℤ) (q : ℕ) → IsInside before wider →
     HullWithin (spans_of (hull_at b before v q)) (spans_of (hull_at b wider v q))
 unfolding hull_at
 hull_grows b [] [] v q a = (λ e h. h, λ e h. h, λ e h. h, λ e h. h, λ e h. h)
@@ -204,49 +205,49 @@ within_trans s t u p q e h = q e (p e h)
 
 -- boxes
 
-same_length : (cells wider : List (List ℤ)) → AreWithin cells wider → length cells ≡ length wider
+same_length : (cells wider : List (List ℤ)) → IsInside cells wider → length cells ≡ length wider
 same_length [] [] a = refl
 same_length [] (w ∷ wider) a = absurd a
 same_length (c ∷ cells) [] a = absurd a
 same_length (c ∷ cells) (w ∷ wider) a = ap suc (same_length cells wider a.1)
 
-within_append : (es bs cs ds : List (List ℤ)) → AreWithin es cs → AreWithin bs ds → AreWithin (es ++ bs) (cs ++ ds)
+within_append : (es bs cs ds : List (List ℤ)) → IsInside es cs → IsInside bs ds → IsInside (es ++ bs) (cs ++ ds)
 within_append [] bs [] ds h k = k
 within_append [] bs (c ∷ cs) ds h k = absurd h
 within_append (a ∷ es) bs [] ds h k = absurd h
 within_append (a ∷ es) bs (c ∷ cs) ds h k = (h.0, within_append es bs cs ds h.1 k)
 
-within_reverse : (es cs : List (List ℤ)) → AreWithin es cs → AreWithin (reverse es) (reverse cs)
+within_reverse : (es cs : List (List ℤ)) → IsInside es cs → IsInside (reverse es) (reverse cs)
 within_reverse [] [] h = tt
 within_reverse [] (c ∷ cs) h = absurd h
 within_reverse (a ∷ es) [] h = absurd h
 within_reverse (a ∷ es) (c ∷ cs) h =
-    subst (λ z. AreWithin z (reverse (c ∷ cs))) (sym (reverse-append (a ∷ []) es))
-    (subst (AreWithin (reverse es ++ a ∷ [])) (sym (reverse-append (c ∷ []) cs))
+    subst (λ z. IsInside z (reverse (c ∷ cs))) (sym (reverse-append (a ∷ []) es))
+    (subst (IsInside (reverse es ++ a ∷ [])) (sym (reverse-append (c ∷ []) cs))
     (within_append (reverse es) (a ∷ []) (reverse cs) (c ∷ []) (within_reverse es cs h.1) (h.0, tt)))
 
-within_take : (i : ℕ) (es cs : List (List ℤ)) → AreWithin es cs → AreWithin (take i es) (take i cs)
+within_take : (i : ℕ) (es cs : List (List ℤ)) → IsInside es cs → IsInside (take i es) (take i cs)
 within_take zero es cs h = tt
 within_take (suc i) [] [] h = tt
 within_take (suc i) [] (c ∷ cs) h = absurd h
 within_take (suc i) (a ∷ es) [] h = absurd h
 within_take (suc i) (a ∷ es) (c ∷ cs) h = (h.0, within_take i es cs h.1)
 
-within_drop : (i : ℕ) (es cs : List (List ℤ)) → AreWithin es cs → AreWithin (drop i es) (drop i cs)
+within_drop : (i : ℕ) (es cs : List (List ℤ)) → IsInside es cs → IsInside (drop i es) (drop i cs)
 within_drop zero es cs h = h
 within_drop (suc i) [] [] h = tt
 within_drop (suc i) [] (c ∷ cs) h = absurd h
 within_drop (suc i) (a ∷ es) [] h = absurd h
 within_drop (suc i) (a ∷ es) (c ∷ cs) h = within_drop i es cs h.1
 
-within_at : (i : ℕ) (es cs : List (List ℤ)) → AreWithin es cs → (v : ℤ) → Contains (get_or es i []) v → Contains (get_or cs i []) v
+within_at : (i : ℕ) (es cs : List (List ℤ)) → IsInside es cs → (v : ℤ) → Contains (get_or es i []) v → Contains (get_or cs i []) v
 within_at i [] [] h v k = k
 within_at i [] (c ∷ cs) h v k = absurd h
 within_at i (a ∷ es) [] h v k = absurd h
 within_at zero (a ∷ es) (c ∷ cs) h v k = h.0 v k
 within_at (suc i) (a ∷ es) (c ∷ cs) h v k = within_at i es cs h.1 v k
 
-looked_within : (w : Option Range) (cells wider : List (List ℤ)) → AreWithin cells wider → AreWithin (looked_at w cells) (looked_at w wider)
+looked_within : (w : Option Range) (cells wider : List (List ℤ)) → IsInside cells wider → IsInside (looked_at w cells) (looked_at w wider)
 looked_within None cells wider a = a
 looked_within (Some r) cells wider a = within_take (r.last - (r.first - 1)) _ _ (within_drop (r.first - 1) cells wider a)
 
@@ -256,7 +257,7 @@ module _ (mark : Mark) (h : Span)
   marked_in : (m : Mark) → m ≡ mark → (n : ℕ) (s t : Span) → IsWithin s t → IsWithin (marked_span m n t) h → IsWithin (marked_span m n s) h
   marked_in m e n s t w = subst (λ z. IsWithin (marked_span z n t) h → IsWithin (marked_span z n s) h) (sym e) (keeps n s t w)
 
-  finishes_in : (b : Body) → b.mark ≡ mark → (n : ℕ) (before wider : List (List ℤ)) (v : ℤ) → AreWithin before wider →
+  finishes_in : (b : Body) → b.mark ≡ mark → (n : ℕ) (before wider : List (List ℤ)) (v : ℤ) → IsInside before wider →
       IsWithin (span_of_all (finish_spans b n wider v)) h → IsWithin (span_of_all (finish_spans b n before v)) h
   unfolding finish_spans
   finishes_in b is n before wider v a all =
@@ -269,8 +270,8 @@ module _ (mark : Mark) (h : Span)
       (within_trans (g q) (span_of_all (map g (states_of b))) h
       (in_all (g q) (map g (states_of b)) (any_range (λ t. IsWithin (g q) t) g 0 (length b.states) q (omega arith) (omega (arith, lt)) (λ e k. k))) all)))
 
-  glued_in : (p : Pair) → p.forward.mark ≡ mark → (n : ℕ) (before wider behind rest : List (List ℤ)) (v : ℤ) → AreWithin before wider →
-      AreWithin behind rest →
+  glued_in : (p : Pair) → p.forward.mark ≡ mark → (n : ℕ) (before wider behind rest : List (List ℤ)) (v : ℤ) → IsInside before wider →
+      IsInside behind rest →
       IsWithin (span_of_all (glued_spans p n wider rest v)) h → IsWithin (span_of_all (glued_spans p n before behind v)) h
   unfolding glued_spans
   glued_in p is n before wider behind rest v a c all =
@@ -292,7 +293,7 @@ module _ (mark : Mark) (h : Span)
       (any_range (λ t. IsWithin (g q r) t) (g q) 0 (length p.reverse.states) r (omega arith) (omega (arith, l)) (λ e k. k)))) all))))
 
   by_pair : (b : Body) (o : Option Pair) → b.mark ≡ mark → IfSome o (λ p. p.forward ≡ b) → (k : ℕ) (cells wider : List (List ℤ)) (v : ℤ) →
-      AreWithin cells wider → IsWithin (span_of_all (spans_at b o k wider v)) h → IsWithin (span_of_all (spans_at b o k cells v)) h
+      IsInside cells wider → IsWithin (span_of_all (spans_at b o k wider v)) h → IsWithin (span_of_all (spans_at b o k cells v)) h
   unfolding spans_at
   by_pair b None is s k cells wider v a all =
       finishes_in b is (length cells) (cells_before k cells) (cells_before k wider) v (within_reverse _ _ (within_take (k - 1) cells wider a))
@@ -303,12 +304,12 @@ module _ (mark : Mark) (h : Span)
       (subst (λ n. IsWithin (span_of_all (glued_spans p n (cells_before k wider) (cells_after k wider) v)) h) (sym (same_length cells wider a)) all)
 
   module _ (m : Automata) (is : m.forward.mark ≡ mark) (pair : IfSome m.pair (λ p. p.forward ≡ m.forward)) where
-    value_in_inside : (k : ℕ) (cells wider : List (List ℤ)) (v : ℤ) → AreWithin cells wider →
+    value_in_inside : (k : ℕ) (cells wider : List (List ℤ)) (v : ℤ) → IsInside cells wider →
         IsWithin (inner_value_span m k wider v) h → IsWithin (inner_value_span m k cells v) h
     unfolding inner_value_span
     value_in_inside k cells wider v a all = by_pair m.forward m.pair is pair k cells wider v a all
 
-    inner_in_inside : (cells wider : List (List ℤ)) → AreWithin cells wider → (k : ℕ) → IsWithin (inner_span m k wider) h → IsWithin (inner_span m k cells) h
+    inner_in_inside : (cells wider : List (List ℤ)) → IsInside cells wider → (k : ℕ) → IsWithin (inner_span m k wider) h → IsWithin (inner_span m k cells) h
     unfolding inner_span
     inner_in_inside cells wider a k all =
         all_in h (map (inner_value_span m k cells) (values_at k cells))
@@ -319,7 +320,7 @@ module _ (mark : Mark) (h : Span)
         (any_mapped (λ t. IsWithin (inner_value_span m k wider v) t) (inner_value_span m k wider) (values_at k wider) v
         (within_at (k - 1) cells wider a v c) (λ e q. q))) all)))
 
-    pub term_in_inside : (cells wider : List (List ℤ)) → AreWithin cells wider → (k : ℕ) → IsWithin (term_span m k wider) h → IsWithin (term_span m k cells) h
+    pub term_in_inside : (cells wider : List (List ℤ)) → IsInside cells wider → (k : ℕ) → IsWithin (term_span m k wider) h → IsWithin (term_span m k cells) h
     unfolding term_span
     term_in_inside cells wider a k all =
         inner_in_inside (looked_at m.window cells) (looked_at m.window wider) (looked_within m.window cells wider a) (place_in m.window k) all

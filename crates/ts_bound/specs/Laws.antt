@@ -13,6 +13,7 @@ use Rattle.ts_domain.specs.BoxSeries.{InBox, IsBox}
 use Rattle.ts_glue.specs.Pairs.{Pair}
 use Rattle.ts_glue.specs.Glued.{Local}
 use Rattle.ts_glue.specs.Rules.{keeps_rules}
+use Rattle.ts_bound.specs.Boxes.{IsInside}
 use Rattle.ts_bound.specs.HullTables.{row_of, values_at}
 use Rattle.ts_bound.specs.NextRow.{RowStands}
 use Rattle.ts_bound.specs.Rows.{IsRow, row_at, with_written}
@@ -52,18 +53,11 @@ ValueSpansAreWithin =
     (k : ℕ) (v : ℤ) → Contains (values_at k cells) v →
     IsWithin (value_span m k cells v) (term_span m k cells)
 
--- each set of the first box is within that of the second
-abbrev pub AreWithin : List (List ℤ) → List (List ℤ) → Type 0
-AreWithin [] [] = Unit {0}
-AreWithin [] (d ∷ ds) = ⊥
-AreWithin (c ∷ cs) [] = ⊥
-AreWithin (c ∷ cs) (d ∷ ds) = ((v : ℤ) → Contains c v → Contains d v) × AreWithin cs ds
-
 -- where the mark leaves each answer as it is, the span of a smaller box lies in that of a larger one
 abbrev pub SmallerBoxesAreWithin : Type 0
 SmallerBoxesAreWithin =
     (m : Automata) → AreAutomata m → m.forward.mark ≡ Same →
-    (cells wider : List (List ℤ)) → AreWithin cells wider → (k : ℕ) →
+    (cells wider : List (List ℤ)) → IsInside cells wider → (k : ℕ) →
     IsWithin (term_span m k cells) (term_span m k wider)
 
 -- on a box of one series the span at the last cell is exactly the answer on the cells that are looked at

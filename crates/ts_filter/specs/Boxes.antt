@@ -1,8 +1,8 @@
 -- What the lines of a tree make of a box, one rising list of values a cell. Cells count from 1.
-use Rattle.std.specs.Prelude.{ℕ, ◌-◌, ◌≤◌, ◌⊎◌, ℤ, List, [], ◌∷◌, Contains, length, map, set}
+use Rattle.std.specs.Prelude.{ℕ, ◌-◌, ◌≤◌, ◌⊎◌, ℤ, List, [], ◌∷◌, length, map, set}
 use Rattle.ts_domain.specs.BoxSeries.{InBox, IsBox}
 use Rattle.ts_domain.specs.Kept.{values_up_to, values_above, values_without}
-pub use Rattle.ts_bound.specs.Boxes.{Box}
+pub use Rattle.ts_bound.specs.Boxes.{Box, IsInside}
 pub use Rattle.ts_bound.specs.HullTables.{values_at}
 
 -- k is the number of a cell
@@ -30,13 +30,6 @@ only k v b = with_values k (v ∷ []) b
 -- the box of the series x alone
 abbrev pub box_of : List ℤ → Box
 box_of x = map (λ (v : ℤ). v ∷ []) x
-
--- each cell of b has values of the same cell of m alone
-abbrev pub IsInside : Box → Box → Type 0
-IsInside [] [] = Unit {0}
-IsInside [] (e ∷ m) = ⊥
-IsInside (d ∷ b) [] = ⊥
-IsInside (d ∷ b) (e ∷ m) = ((v : ℤ) → Contains d v → Contains e v) × IsInside b m
 
 -- a box inside m
 pub record IsPart (b m : Box) : Type 0 where

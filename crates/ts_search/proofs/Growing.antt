@@ -14,7 +14,7 @@ use Rattle.ts_base.proofs.SpanLaws.{hull_least, hull_left, holds_one, holds_some
 use Rattle.ts_automaton.specs.declared.state.Mark.TheVariants.{Zero}
 use Rattle.ts_automaton.specs.AutomatonRun.{under_mark}
 use Rattle.ts_automaton.specs.SpanRun.{marked_span}
-use Rattle.ts_bound.specs.Laws.{AreWithin}
+use Rattle.ts_bound.specs.Boxes.{IsInside}
 use Rattle.ts_bound.specs.TermSpans.{Automata, term_span}
 use Rattle.ts_bound.proofs.Growth.{term_in_inside}
 
@@ -71,6 +71,6 @@ zero_keeps b one n s t w all = go (has_some s) refl
     go false i = λ e p. absurd (none_empty e p)
 
 pub above_inside : (b : ℤ) → pos 1 ≤ℤ b → (m : Automata) → m.forward.mark ≡ Zero → IfSome m.pair (λ p. p.forward ≡ m.forward) →
-    (cells wider : List (List ℤ)) → AreWithin cells wider → (k : ℕ) → IsWithin (term_span m k wider) (from_number b) →
+    (cells wider : List (List ℤ)) → IsInside cells wider → (k : ℕ) → IsWithin (term_span m k wider) (from_number b) →
     IsWithin (term_span m k cells) (from_number b)
 above_inside b one m is pair cells wider a k all = term_in_inside Zero (from_number b) (zero_keeps b one) m is pair cells wider a k all

@@ -14,7 +14,7 @@ use Rattle.ts_base.specs.Spans.{Holds}
 use Rattle.ts_automaton.specs.declared.state.Mark.{Mark}
 use Rattle.ts_automaton.specs.declared.state.Mark.TheVariants.{Same, Zero as ZeroMark, Cells}
 use Rattle.ts_automaton.specs.Body.{Body}
-use Rattle.ts_bound.specs.Laws.{AreAutomata, AreWithin, Splits}
+use Rattle.ts_bound.specs.Laws.{AreAutomata, Splits}
 use Rattle.ts_bound.specs.TermSpans.{Automata, IsUsable, automata_of, term_span}
 use Rattle.ts_bound.proofs.Growth.{smaller_within}
 use Rattle.ts_glue.specs.declared.machine.Machine.{Machine}
@@ -40,12 +40,6 @@ use Rattle.ts_search.specs.declared.problem.Problem.{Problem}
 use Rattle.ts_search.proofs.CallLaws.{cut_from, cut_to, from_machine, to_machine}
 use Rattle.ts_search.proofs.Growing.{above_inside, from_number}
 use Rattle.ts_search.proofs.Posed.{tables_long}
-
-are_within : (b m : Box) → IsInside b m → AreWithin b m
-are_within [] [] h = tt
-are_within [] (e ∷ m) h = absurd h
-are_within (d ∷ b) [] h = absurd h
-are_within (d ∷ b) (e ∷ m) h = (h.0, are_within b m h.1)
 
 automata_there : (ts : List (List ℕ × StatedTerm)) (k : ℕ) (a : Automata) → slice_get (map (λ t. automata_for t.1) ts) k ≡ Some a → AreAutomata a
 automata_there [] k a e = absurd (let z : ◌≡◌ {A = Option Automata} None (Some a) = e in cc)
@@ -90,12 +84,12 @@ one_more b h = omega (arith, ints, h)
 
 refuted_inside : (a : Automata) → AreAutomata a → (op : Op) (bound : Ext) → (mark : Mark) → a.forward.mark ≡ mark → ShowsInside mark op bound →
     (b inner : Box) → IsInside inner b → (p : ℕ) → Refutes op bound (term_span a p b) → Refutes op bound (term_span a p inner)
-refuted_inside a are op bound Same is s b inner i p f = λ v h. f v (smaller_within a are is inner b (are_within inner b i) p v h)
+refuted_inside a are op bound Same is s b inner i p f = λ v h. f v (smaller_within a are is inner b i p v h)
 refuted_inside a are op NegInf ZeroMark is s b inner i p f = absurd s
 refuted_inside a are op (Int x) ZeroMark is s b inner i p f =
     subst (λ z. Refutes z (Int x) (term_span a p inner)) (sym s.0)
     (not_at_most x (term_span a p inner)
-    (above_inside (x +ℤ pos 1) (one_more x s.1) a is (pair_of_it a.forward a.pair are.pair) inner b (are_within inner b i) p
+    (above_inside (x +ℤ pos 1) (one_more x s.1) a is (pair_of_it a.forward a.pair are.pair) inner b i p
     (above x (term_span a p b) (subst (λ z. Refutes z (Int x) (term_span a p b)) s.0 f))))
 refuted_inside a are op PosInf ZeroMark is s b inner i p f = absurd s
 refuted_inside a are op bound Cells is s b inner i p f = absurd s
@@ -141,7 +135,7 @@ cuts_inside q objective a has mark p b inner bar i d =
     let t = cut_to ms q.objective a has m objective q.goal bar p b ((tells.cut m q.goal p b bar).1 d) in
     (tells.cut m q.goal p inner bar).0
     (cut_from ms q.objective a has m objective q.goal bar p inner (usable_inside a p b inner i t.0)
-    (λ v h. t.1 v (smaller_within a (automata_there m.terms q.objective a has) mark inner b (are_within inner b i) p v h)))
+    (λ v h. t.1 v (smaller_within a (automata_there m.terms q.objective a has) mark inner b i p v h)))
 
 -- the machine at a place, as the code reads it
 pub machine_at : (q : Problem) → IsPosed q → (machines : List Machine) → map automata_of machines ≡ automata_in (model_parts q.model.now) → (term : ℕ) →
