@@ -1,8 +1,8 @@
 -- A leap as the code makes it: the boxes below on the trail, the values that are taken away, and where it ends.
-use Rattle.std.proofs.Common.{◌≡◌, ◌⊎◌, ℕ, zero, suc, ◌+◌, ◌-◌, ◌/◌, ◌<◌, ◌≤◌, ℤ, ◌<ℤ◌, Bool, false, List, [], ◌∷◌, length, get_or, set, take, Option, Some, None, slice_get, refl, sym, ◌∙◌, ap, subst, inl, inr, ⊎_elim, arith, ◌↔◌}
+use Rattle.std.proofs.Common.{◌≡◌, ◌⊎◌, ℕ, zero, suc, ◌+◌, ◌-◌, ◌/◌, ◌<◌, ◌≤◌, ℤ, ◌<ℤ◌, Bool, false, List, [], ◌∷◌, length, get_or, set, take, Some, None, slice_get, refl, sym, ◌∙◌, ap, subst, inl, inr, ⊎_elim, arith, ◌↔◌}
 use Rattle.std.proofs.lemmas.Bool.{false_from_ne_true}
 use Rattle.std.proofs.lemmas.List.{get_or-take, get_or_append_left, length-set, length-take-le, length_push, take-set, take_more}
-use Rattle.std.proofs.lemmas.Option.{slice_get-get_or, slice_get_within}
+use Rattle.std.proofs.lemmas.Option.{slice_get_within}
 use Rattle.std.proofs.Math.Seq.{get_or-append_seam}
 use Rattle.std.specs.Prelude.{Contains, IsTrue, int_lt}
 use Rattle.ts_bound.specs.TermSpans.{Automata, term_span}
@@ -11,7 +11,7 @@ use Rattle.ts_certificate.specs.declared.certificate.TreeLine.TheVariants.{Split
 use Rattle.ts_domain.specs.BoxSeries.{Boxes, IsBox, all_boxes, back_to}
 use Rattle.ts_domain.specs.Kept.{values_up_to}
 use Rattle.ts_domain.proofs.BoxLaws.{contains_above}
-use Rattle.ts_domain.proofs.Sets.{lt_true}
+use Rattle.ts_domain.proofs.Sets.{contains_cons, lt_true}
 use Rattle.ts_filter.specs.Boxes.{Box, HasCell, IsPart, only, values_at}
 use Rattle.ts_filter.specs.Excluded.{Refutes}
 use Rattle.ts_filter.specs.RefutedWorseDrop.{IsRefuted}
@@ -125,35 +125,38 @@ pub low_stays : (e : Box) (k : ℕ) (t told : ℤ) → told ≡ t → IsBox e �
 low_stays e k t told same box h =
     subst (λ z. values_up_to z (values_at k e) ≡ [] → ⊥) (sym same) (wide_split e e k t (part_self e box) (halving_form e k t h)).below
 
--- with the values so far no requirement is refuted
+-- each value above t with which a requirement is refuted is still to come
+abbrev pub AreFreeBut : Search → Box → ℕ → ℤ → List ℤ → Type 0
+AreFreeBut s b k t left =
+    (v : ℤ) (j : ℕ) → Contains (values_at k b) v → t <ℤ v → IsRefuted s.model.requirements s.spans j k (only k v b) → Contains left v
 
-abbrev pub AreFreeUpTo : Search → Box → ℕ → ℤ → ℕ → Type 0
-AreFreeUpTo s b k t n =
-    (i : ℕ) (v : ℤ) (j : ℕ) → i < n → slice_get (values_at k b) i ≡ Some v → t <ℤ v → IsRefuted s.model.requirements s.spans j k (only k v b) → ⊥
+-- the value that comes first
+module _ (left rest : List ℤ) (v : ℤ) (e : left ≡ v ∷ rest) where
+  pub comes : Contains left v
+  comes = subst (λ z. Contains z v) (sym e) ((contains_cons v rest v).1 (inl refl))
 
-pub free_next : (s : Search) (b : Box) (k : ℕ) (t : ℤ) (n : ℕ) (v : ℤ) → slice_get (values_at k b) n ≡ Some v →
-    (t <ℤ v → (j : ℕ) → IsRefuted s.model.requirements s.spans j k (only k v b) → ⊥) → AreFreeUpTo s b k t n → AreFreeUpTo s b k t (n + 1)
-free_next s b k t n v is free h i u j l e above r = go (which i n l)
-  where
-    go : (i ≡ n) ⊎ (i < n) → ⊥
-    go (inr below) = h i u j below e above r
-    go (inl same) =
-        let one : v ≡ u = (let z : ◌≡◌ {A = Option ℤ} (Some v) (Some u) = sym is ∙ ap (slice_get (values_at k b)) (sym same) ∙ e in cc) in
-        free (subst (λ z. t <ℤ z) (sym one) above) j (subst (λ z. IsRefuted s.model.requirements s.spans j k (only k z b)) (sym one) r)
+  pub comes_later : (u : ℤ) → Contains rest u → Contains left u
+  comes_later u c = subst (λ z. Contains z u) (sym e) ((contains_cons v rest u).1 (inr c))
+
+  pub free_next : (s : Search) (b : Box) (k : ℕ) (t : ℤ) → (t <ℤ v → (j : ℕ) → IsRefuted s.model.requirements s.spans j k (only k v b) → ⊥) →
+      AreFreeBut s b k t left → AreFreeBut s b k t rest
+  free_next s b k t free h u j has above r = go ((contains_cons v rest u).0 (subst (λ z. Contains z u) e (h u j has above r)))
+    where
+      go : (v ≡ u) ⊎ Contains rest u → Contains rest u
+      go (inr later) = later
+      go (inl same) =
+          absurd
+          (free (subst (λ z. t <ℤ z) (sym same) above) j (subst (λ z. IsRefuted s.model.requirements s.spans j k (only k z b)) (sym same) r))
 
 -- as the code compares them
 pub not_above : {P : Type 0} (t v told seen : ℤ) → told ≡ t → seen ≡ v → int_lt told seen ≡ false → t <ℤ v → P
 not_above t v told seen e f under above =
     absurd (clash (int_lt t v) (lt_true t v above) (subst (λ z. int_lt z v ≡ false) e (subst (λ z. int_lt told z ≡ false) f under)))
 
-pub all_free : (s : Search) (b : Box) (k : ℕ) (t : ℤ) (i n : ℕ) → n ≤ i → n ≡ length (values_at k b) → AreFreeUpTo s b k t i → TakesFreeValues s b (Wide k t)
-all_free s b k t i n end count h v j has r =
+pub all_free : (s : Search) (b : Box) (k : ℕ) (t : ℤ) (left : List ℤ) → left ≡ [] → AreFreeBut s b k t left → TakesFreeValues s b (Wide k t)
+all_free s b k t left end h v j has r =
     let c = (contains_above t (values_at k b) v).0 has in
-    let place = at (values_at k b) v c.0 in
-    h place.0 v j (let l = slice_get_within (values_at k b) place.0 v place.1 in omega (arith, l, end, count)) place.1 c.1 r
-  where
-    at : (d : List ℤ) (v : ℤ) → Contains d v → (i : ℕ) × (slice_get d i ≡ Some v)
-    at d v h = (h.0, slice_get-get_or d h.0 v h.1 ∙ ap Some h.2)
+    let there = subst (λ z. Contains z v) end (h v j c.0 c.1 r) in let below = there.1 in absurd (omega (arith, below))
 
 -- by no requirement so far is the value refuted
 

@@ -116,12 +116,10 @@ fn takes_free_values(
         TakesFreeValues (search_of problem.now) cells.now.present (Wide halving.cell halving.at)) }
 {
     let domain = cells.cell(halving.cell);
-    let count = domain.size();
-    if count > MOST_VALUES {
+    if domain.size() > MOST_VALUES {
         return Ok(false);
     }
-    for i in 0..count {
-        let v = domain.nth(i);
+    for v in domain.values() {
         if v > halving.at && !is_free(alloc, problem, tables, cells, halving.cell, v)? {
             return Ok(false);
         }
