@@ -2,7 +2,7 @@
 use Rattle.std.proofs.Common.{◌≡◌, ◌⊎◌, ℕ, min, zero, suc, ◌+◌, ◌-◌, ◌<◌, ◌≤◌, ℤ, ◌<ℤ◌, pos, ◌↔◌, Bool, true, false, List, [], ◌∷◌, length, map, drop}
 use Rattle.std.proofs.Common.{Option, Some, None, option_map, slice_get, get_or, refl, sym, ◌∙◌, ap, subst, inl, inr, ⊎_elim, arith}
 use Rattle.std.proofs.lemmas.Option.{slice_get-get_or, slice_get-map, slice_get_read}
-use Rattle.std.specs.Prelude.{Contains}
+use Rattle.std.specs.Prelude.{Contains, IsSome}
 use Rattle.std.specs.List.{AllByRecursion}
 use Rattle.ts_base.specs.declared.span.Span.{Span}
 use Rattle.ts_bound.specs.Looks.{is_looked}
@@ -127,6 +127,21 @@ module _ (rs : List Require) (term : ℕ) (a : Automata) (b : Box) where
   -- none at the first cells
   abbrev pub NoneUpTo : ℕ → Type 0
   NoneUpTo n = (t : Removal) → IsTermDrop rs term a b t → n < t.cell
+
+  -- the first at the next cell is the first of all
+  pub first_up_to : (n last : ℕ) (found : Option Removal) → IsSome found → NoneUpTo n → IsFirstOf (IsDropAt rs term a b (n + 1)) found → n + 1 ≤ last →
+      IsFirstOf (IsDropUpTo rs term a b last) found
+  first_up_to n last None some none first le = absurd (let z : ◌≡◌ {A = Bool} false true = some in cc)
+  first_up_to n last (Some r) some none first le =
+      let is = first.0.0 in
+      ((first.0.1, omega (arith, is, le)), λ t d. by_cell t d (split (n + 1) t.cell (let more = none t d.0 in omega (arith, more))))
+    where
+      split : (k m : ℕ) → k ≤ m → (m ≡ k) ⊎ (k < m)
+      split k m l = grind (arith, l)
+
+      by_cell : (t : Removal) → IsDropUpTo rs term a b last t → (t.cell ≡ n + 1) ⊎ (n + 1 < t.cell) → IsNoLater r t
+      by_cell t d (inl e) = first.1 t (e, d.0)
+      by_cell t d (inr more) = inl (let is = first.0.0 in omega (arith, is, more))
 
   -- outside the window all values of a cell have one span
 

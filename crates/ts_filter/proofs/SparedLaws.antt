@@ -4,7 +4,7 @@ use Rattle.std.proofs.Common.{Option, Some, None, unwrap_or, slice_get, refl, sy
 use Rattle.std.proofs.lemmas.Int.{ints}
 use Rattle.std.proofs.lemmas.List.{length-map, length-replicate, length-set}
 use Rattle.std.proofs.lemmas.Option.{none-some, same_Some, slice_get-get_or}
-use Rattle.std.specs.Prelude.{Contains}
+use Rattle.std.specs.Prelude.{Contains, IsTrue}
 use Rattle.std.specs.List.{AllByRecursion}
 use Rattle.ts_base.specs.Limits.{IsCellValue, greatest_value}
 use Rattle.ts_domain.specs.BoxSeries.{IsBox}
@@ -14,13 +14,14 @@ use Rattle.ts_domain.proofs.Sets.{each_contains}
 use Rattle.ts_bound.specs.TermSpans.{Automata, LooksIn, value_span, IsUsable as IsUsableOf}
 use Rattle.ts_model.specs.declared.model.Require.{Require}
 use Rattle.ts_filter.specs.declared.drops.Removal.{Removal}
+use Rattle.ts_filter.specs.declared.spares.Told.{Told}
 use Rattle.ts_filter.specs.declared.term_requirements.TermRequirements.{TermRequirements}
 use Rattle.ts_filter.specs.Boxes.{Box, values_at}
-use Rattle.ts_filter.specs.KeptCells.{AreKept, AreSized, IsAliveTerm, IsKeptIfKnown, IsSpared, IsSparedAt, IsTermKept, TermKept, below_all, forgotten, is_alive_in, spared_in, unknown, with_alive, with_known, with_spared}
+use Rattle.ts_filter.specs.KeptCells.{AreFree, AreKept, AreSized, IsAliveTerm, IsFree, IsKeptIfKnown, IsSpared, IsSparedAt, IsTermKept, Tells, TermKept, below_all, forgotten, is_alive_in, spared_in, unknown, with_alive, with_known, with_spared}
 use Rattle.ts_filter.specs.MachineSpans.{spans_of}
 use Rattle.ts_filter.specs.OfTerm.{OfTerm}
 use Rattle.ts_filter.specs.RefutedWorseDrop.{Spans, IsDrop}
-use Rattle.ts_filter.specs.TermDrops.{IsDropAt, IsRefutedOutside}
+use Rattle.ts_filter.specs.TermDrops.{IsDropAt, IsFirstRefuting, IsRefuting, IsRefutedOutside}
 use Rattle.ts_filter.proofs.BoxParts.{domain_at}
 use Rattle.ts_filter.proofs.CallLaws.{to_refuted}
 use Rattle.ts_filter.proofs.CellLaws.{left_is}
@@ -323,3 +324,53 @@ pub kept_of_own : (own : TermRequirements) (rs : List Require) (term : ℕ) (a :
     own.term ≡ term → IsKeptIfKnown rs term a b kept → IsKeptIfKnown own.all.now own.term a b kept
 kept_of_own own rs term a b kept is_all is_term h =
     subst (λ z. IsKeptIfKnown z own.term a b kept) (sym is_all) (subst (λ z. IsKeptIfKnown rs z a b kept) (sym is_term) h)
+
+-- what is known of single values
+
+pub none_of_free : {A : Type 0} (knows : List Require → Spans → Box → A → Type 0) (rs : List Require) (term : ℕ) (a : Automata) (b : Box) (x : A) (k : ℕ)
+    (v : ℤ) (h : Tells knows rs term a b x) → IsUsableOf a k b → 2 ≤ length (values_at k b) → Contains (values_at k b) v → IsFree rs h.spans b term k v →
+    (j : ℕ) → IsRefuting rs term (value_span a k b v) j → ⊥
+none_of_free knows rs term a b x k v h usable many there free j r =
+    free j r.require r.is r.of_term
+    (h.drops (record { cell = k; value = v; require = j }) (record { usable = usable; many = many; there = there; refuting = r }))
+
+of_machines : {A : Type 0} (knows : List Require → Spans → Box → A → Type 0) (rs : List Require) (ms : List Automata) (b : Box) (x : A) →
+    knows rs (spans_of ms) b x → (term : ℕ) (a : Automata) → slice_get ms term ≡ Some a → LooksIn a b → Tells knows rs term a b x
+of_machines knows rs ms b x h term a has looks = record {
+  spans = spans_of ms;
+  known = h;
+  drops = λ r d. to_drop rs ms b term a has looks r d;
+}
+
+pub told_of_each : {A : Type 0} (knows : List Require → Spans → Box → A → Type 0) (rs : List Require) (ms : List Automata) (b : Box) (x : A) →
+    knows rs (spans_of ms) b x → (term : ℕ) → AllByRecursion (λ a. LooksIn a b) ms → OfTerm ms term (λ a. Tells knows rs term a b x)
+told_of_each knows rs ms b x h term looks a has = of_machines knows rs ms b x h term a has (looks_of b ms term looks a has)
+
+last_of_equals : (term : ℕ) (a : Automata) → slice_get (replicate (suc term) a) term ≡ Some a
+last_of_equals zero a = refl
+last_of_equals (suc term) a = last_of_equals term a
+
+-- where nothing is known of them
+pub nothing_told : {A : Type 0} (knows : List Require → Spans → Box → A → Type 0) (rs : List Require) (term : ℕ) (a : Automata) (b : Box) (x : A) →
+    ((s : Spans) → knows rs s b x) → LooksIn a b → Tells knows rs term a b x
+nothing_told knows rs term a b x h looks =
+    let ms = replicate (suc term) a in of_machines knows rs ms b x (h (spans_of ms)) term a (last_of_equals term a) looks
+
+-- what is told of the values from a place on
+
+abbrev pub FreeFrom : List Require → ℕ → Automata → Box → ℕ → ℕ → Told → Type 0
+FreeFrom rs term a b k i told =
+    IsTrue told.free → (j : ℕ) (w : ℤ) → i ≤ j → slice_get (values_at k b) j ≡ Some w → w ≤ℤ told.to → IsFirstRefuting rs term (value_span a k b w) None
+
+pub not_free : (rs : List Require) (term : ℕ) (a : Automata) (b : Box) (k i : ℕ) (told : Told) → told.free ≡ false → FreeFrom rs term a b k i told
+not_free rs term a b k i told is_not free = absurd (let z : ◌≡◌ {A = Bool} false true = sym is_not ∙ free in cc)
+
+pub free_later : (rs : List Require) (term : ℕ) (a : Automata) (b : Box) (k i later : ℕ) (told : Told) → i ≤ later → FreeFrom rs term a b k i told →
+    FreeFrom rs term a b k later told
+free_later rs term a b k i later told from h free j w up at within = h free j w (let u = up in omega (arith, from, u)) at within
+
+pub free_on : (rs : List Require) (term : ℕ) (a : Automata) (b : Box) (k i : ℕ) (v : ℤ) (told new : Told) → IsRising (values_at k b) →
+    slice_get (values_at k b) i ≡ Some v → FreeFrom rs term a b k i told → (new ≡ told) ⊎ AreFree rs term a b k v new → FreeFrom rs term a b k i new
+free_on rs term a b k i v told new rises here h (inl e) = subst (FreeFrom rs term a b k i) (sym e) h
+free_on rs term a b k i v told new rises here h (inr are) = λ free j w up at within.
+    are free w (at_contains (values_at k b) j w at) (up_to_place (values_at k b) i j v w rises (let u = up in omega (arith, u)) here at) within

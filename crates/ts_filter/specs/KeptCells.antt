@@ -1,14 +1,15 @@
 -- What is known of drops before any is looked for: of which terms no requirement is refuted, and up to which value none
 -- drops one of a cell. Nothing has to be known.
 use Rattle.std.specs.Prelude.{◌≡◌, ℕ, ◌+◌, ◌-◌, ℤ, ◌≤ℤ◌, neg_ℤ, pos, Bool, true, false, List, length, map, replicate, set, get_or}
-use Rattle.std.specs.Prelude.{slice_get, Option, Some, None, unwrap_or}
+use Rattle.std.specs.Prelude.{slice_get, Option, Some, None, unwrap_or, Contains, IsTrue}
 use Rattle.ts_base.specs.Limits.{IsCellValue}
-use Rattle.ts_bound.specs.TermSpans.{Automata, IsUsable, term_span}
+use Rattle.ts_bound.specs.TermSpans.{Automata, IsUsable, term_span, value_span}
 use Rattle.ts_model.specs.declared.model.Require.{Require}
 use Rattle.ts_filter.specs.declared.drops.Removal.{Removal}
-use Rattle.ts_filter.specs.Boxes.{Box}
+use Rattle.ts_filter.specs.declared.spares.Told.{Told}
+use Rattle.ts_filter.specs.Boxes.{Box, values_at}
 use Rattle.ts_filter.specs.RefutedWorseDrop.{Spans, IsDrop, IsRefuted, IsRequirement}
-use Rattle.ts_filter.specs.TermDrops.{IsDropAt, IsRefuting}
+use Rattle.ts_filter.specs.TermDrops.{IsDropAt, IsFirstRefuting, IsRefuting, IsTermDrop}
 
 -- what is known of the requirements on a term: that none is refuted at any cell, and up to which value none drops one
 -- of a cell, of cell k at place k - 1
@@ -25,6 +26,11 @@ abbrev pub IsSpared : List Require → Spans → Box → (term k : ℕ) (limit :
 IsSpared requirements s b term k limit =
     (v : ℤ) (j : ℕ) (r : Require) → IsCellValue v → v ≤ℤ limit → IsRequirement requirements j r → r.term ≡ term →
     IsDrop requirements s k v j b → ⊥
+
+-- by no requirement on the term is the value v of cell k dropped
+abbrev pub IsFree : List Require → Spans → Box → (term k : ℕ) (v : ℤ) → Type 0
+IsFree requirements s b term k v =
+    (j : ℕ) (r : Require) → IsRequirement requirements j r → r.term ≡ term → IsDrop requirements s k v j b → ⊥
 
 -- no requirement on the term is refuted at any cell
 abbrev pub IsAliveTerm : List Require → Spans → Box → ℕ → Type 0
@@ -87,3 +93,16 @@ pub record IsTermKept (requirements : List Require) (term : ℕ) (a : Automata) 
 abbrev pub IsKeptIfKnown : List Require → ℕ → Automata → Box → Option TermKept → Type 0
 IsKeptIfKnown requirements term a b None = Unit {0}
 IsKeptIfKnown requirements term a b (Some t) = IsTermKept requirements term a b t
+
+-- what x knows is told by spans by which all drops are that the machine tells of
+pub record Tells {A : Type 0} (knows : List Require → Spans → Box → A → Type 0) (requirements : List Require)
+    (term : ℕ) (a : Automata) (b : Box) (x : A) : Type 0 where
+  pub spans : Spans
+  pub known : knows requirements spans b x
+  pub drops : (r : Removal) → IsTermDrop requirements term a b r → IsDrop requirements spans r.cell r.value r.require b
+
+-- no value of cell k from v on is dropped, as far as is told, by a requirement of the term whose machine this is
+abbrev pub AreFree : List Require → ℕ → Automata → Box → ℕ → ℤ → Told → Type 0
+AreFree requirements term a b k v told =
+    IsTrue told.free → (w : ℤ) → Contains (values_at k b) w → v ≤ℤ w → w ≤ℤ told.to →
+    IsFirstRefuting requirements term (value_span a k b w) None

@@ -1,6 +1,7 @@
 //! Tables that follow a box, of the machines of all terms of a model.
 
-ghost use Rattle.std.specs.Prelude.{◌≡◌, ◌↔◌, ◌<◌, ◌≤◌, Contains, IfOk, IsTrue, OnOk, None, length, map};
+ghost use Rattle.std.specs.Prelude.{◌≡◌, ◌↔◌, ◌<◌, ◌≤◌, Contains, IfOk, IsTrue, OnOk, None};
+ghost use Rattle.std.specs.Prelude.{length, map};
 ghost use Rattle.std.specs.List.{AllByRecursion};
 ghost use Rattle.ts_base.specs.Limits.{too_many};
 ghost use Rattle.ts_bound.specs.Room.{bytes_from, most_bytes};
@@ -24,6 +25,7 @@ use crate::held_machine::HeldMachine;
 use crate::kept_cells::KeptCells;
 use crate::meeting::meet;
 use crate::question::Question;
+use crate::spares::Spares;
 use std::alloc::Global;
 use std::marker::Model;
 use ts_base::{Ext, Goal, Memory};
@@ -288,19 +290,21 @@ impl<'a> AllTables<'a> {
     }
 
     /// The possible drop with the least cell, then the least value, then the least requirement; none exactly where none
-    /// is possible. Nothing is asked of a machine at the cells that are kept.
-    pub fn next_drop(
+    /// is possible. Nothing is asked of a machine at the cells that are kept, nor of a value told to be free.
+    pub fn next_drop<S: Spares>(
         &mut self,
         alloc: Global,
         requirements: &[Require],
         cells: &Boxed,
         kept: &KeptCells,
+        spares: &S,
     ) -> Result<Option<Removal>, Memory>
         requires machines { length self.old.machines < too_many }
         requires requirements { length requirements.now < too_many }
         requires terms { AllByRecursion (λ r. r.term < length self.old.machines) requirements.now }
         requires looks { AllByRecursion (λ a. LooksIn a cells.now.present) self.old.machines }
         requires kept { AreKept requirements.now (spans_of self.old.machines) cells.now.present kept.now }
+        requires spares { S.knows requirements.now (spans_of self.old.machines) cells.now.present spares.now }
         requires on { self.old.cells ≡ cells.now.present }
         ensures same { self.new ≡ self.old }
         ensures found { IfOk result
@@ -310,7 +314,8 @@ impl<'a> AllTables<'a> {
         for term in 0..self.each.len() {
             let last = last_asked(first, cells);
             let known = kept.of_term(term);
-            let found = self.first_drop(alloc, term as u32, requirements, last, known, cells)?;
+            let t = term as u32;
+            let found = self.first_drop(alloc, t, requirements, last, known, spares, cells)?;
             first = earlier(first, found);
         }
         Ok(first)

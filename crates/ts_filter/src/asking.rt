@@ -7,7 +7,7 @@ ghost use Rattle.ts_domain.specs.BoxSeries.{IsCell, cell_of};
 ghost use Rattle.ts_filter.specs.Boxes.{only};
 ghost use Rattle.ts_filter.specs.Drops.{IsFirstOf};
 ghost use Rattle.ts_filter.specs.FirstCell.{IsFirstCell};
-ghost use Rattle.ts_filter.specs.KeptCells.{IsKeptIfKnown};
+ghost use Rattle.ts_filter.specs.KeptCells.{IsKeptIfKnown, Tells};
 ghost use Rattle.ts_filter.specs.OfTerm.{OfTerm};
 ghost use Rattle.ts_filter.specs.Question.{Excludes};
 ghost use Rattle.ts_filter.specs.TermDrops.{IsDropUpTo};
@@ -16,6 +16,7 @@ use crate::all_tables::AllTables;
 use crate::drops::Removal;
 use crate::kept_cells::KeptTerm;
 use crate::question::Question;
+use crate::spares::Spares;
 use crate::term_requirements::TermRequirements;
 use std::alloc::Global;
 use ts_base::{Goal, Memory};
@@ -102,13 +103,14 @@ impl<'a> AllTables<'a> {
     /// The first of the drops by the requirements of the term, up to cell `last`: that with the least cell, then the
     /// least value, then the least requirement. None exactly where none is possible. `kept` is what is known of the
     /// term.
-    pub(crate) fn first_drop(
+    pub(crate) fn first_drop<S: Spares>(
         &mut self,
         alloc: Global,
         term: u32,
         requirements: &[Require],
         last: u32,
         kept: Option<&KeptTerm>,
+        spares: &S,
         cells: &Boxed,
     ) -> Result<Option<Removal>, Memory>
         requires there { term < length self.old.machines }
@@ -116,30 +118,35 @@ impl<'a> AllTables<'a> {
         requires looks { OfTerm self.old.machines term (λ a. LooksIn a cells.now.present) }
         requires kept { OfTerm self.old.machines term
             (λ a. IsKeptIfKnown requirements.now term a cells.now.present (option_map (λ t. t.now) kept)) }
+        requires spares { OfTerm self.old.machines term
+            (λ a. Tells S.knows requirements.now term a cells.now.present spares.now) }
         requires on { self.old.cells ≡ cells.now.present }
         ensures same { self.new ≡ self.old }
         ensures found { IfOk result (λ found. OfTerm self.old.machines term
             (λ a. IsFirstOf (IsDropUpTo requirements.now term a cells.now.present last) found)) }
     {
         match TermRequirements::among(requirements, term) {
-            Some(own) => self.drop_by(alloc, own, last, kept, cells),
+            Some(own) => self.drop_by(alloc, own, last, kept, spares, cells),
             None => Ok(None),
         }
     }
 
     /// The first of the drops by these requirements, up to cell `last`.
-    fn drop_by(
+    fn drop_by<S: Spares>(
         &mut self,
         alloc: Global,
         own: TermRequirements<'_>,
         last: u32,
         kept: Option<&KeptTerm>,
+        spares: &S,
         cells: &Boxed,
     ) -> Result<Option<Removal>, Memory>
         requires there { own.term < length self.old.machines }
         requires looks { OfTerm self.old.machines own.term (λ a. LooksIn a cells.now.present) }
         requires kept { OfTerm self.old.machines own.term
             (λ a. IsKeptIfKnown own.all.now own.term a cells.now.present (option_map (λ t. t.now) kept)) }
+        requires spares { OfTerm self.old.machines own.term
+            (λ a. Tells S.knows own.all.now own.term a cells.now.present spares.now) }
         requires on { self.old.cells ≡ cells.now.present }
         ensures same { self.new ≡ self.old }
         ensures found { IfOk result (λ found. OfTerm self.old.machines own.entry.term
@@ -147,7 +154,7 @@ impl<'a> AllTables<'a> {
     {
         let keeps = self.keeps;
         let tables = &mut self.each[own.term as usize];
-        let found = tables.first_drop(alloc, own, last, kept, cells);
+        let found = tables.first_drop(alloc, own, last, kept, spares, cells);
         tables.leave(keeps);
         found
     }

@@ -1,19 +1,20 @@
 //! Values that may be taken out of their cells.
 
 ghost use Rattle.std.specs.Prelude.{◌≡◌, ◌+◌, ◌<◌, ◌≤◌, ◌<ℤ◌, ◌≤ℤ◌, ℕ, ℤ, IfOk, Some, length, map, option_map, slice_get};
+ghost use Rattle.std.specs.Prelude.{◌⊎◌, Contains, IsTrue, None};
 ghost use Rattle.std.specs.List.{AllByRecursion};
 ghost use Rattle.ts_base.specs.Limits.{too_many};
-ghost use Rattle.ts_bound.specs.TermSpans.{IsUsable, LooksIn, automata_of};
+ghost use Rattle.ts_bound.specs.TermSpans.{IsUsable, LooksIn, automata_of, value_span};
 ghost use Rattle.ts_domain.specs.BoxSeries.{IsBox};
 ghost use Rattle.ts_domain.specs.Values.{IsDomain};
 ghost use Rattle.ts_filter.specs.Drops.{IsFirstDrop, IsFirstOf};
 ghost use Rattle.ts_filter.specs.Boxes.{HasCell, values_at};
 ghost use Rattle.ts_filter.specs.CellHulls.{Serves};
 ghost use Rattle.ts_filter.specs.Question.{AsksEach};
-ghost use Rattle.ts_filter.specs.KeptCells.{IsKeptIfKnown, IsSparedAt};
+ghost use Rattle.ts_filter.specs.KeptCells.{AreFree, IsKeptIfKnown, IsSparedAt, Tells};
 ghost use Rattle.ts_filter.specs.KnownRows.{AreKnown, StillKnown};
 ghost use Rattle.ts_filter.specs.MachineSpans.{spans_of};
-ghost use Rattle.ts_filter.specs.TermDrops.{IsDropAt, IsDropUpTo, IsRefutedOutside, MayHaveDrop};
+ghost use Rattle.ts_filter.specs.TermDrops.{IsDropAt, IsDropUpTo, IsFirstRefuting, IsRefutedOutside, MayHaveDrop};
 ghost use Rattle.ts_filter.specs.TermDrops.{cell_up_to, comes_before, earlier_of, least_drop};
 
 use crate::box_tables::BoxTables;
@@ -21,6 +22,7 @@ use crate::cell_hulls::CellHulls;
 use crate::held_machine::HeldMachine;
 use crate::kept_cells::{KeptTerm, is_alive, spared_to};
 use crate::question::Question;
+use crate::spares::{NothingSpared, Spares, Told};
 use crate::term_requirements::TermRequirements;
 use std::alloc::Global;
 use ts_base::Memory;
@@ -88,7 +90,7 @@ fn drop_of_term(
     match TermRequirements::among(requirements, term) {
         Some(own) => {
             let mut tables = BoxTables::new(alloc, HeldMachine::Lent(machine));
-            tables.first_drop(alloc, own, last, None, cells)
+            tables.first_drop(alloc, own, last, None, &NothingSpared, cells)
         }
         None => Ok(None),
     }
@@ -99,17 +101,19 @@ impl<'a> BoxTables<'a> {
     /// least cell, then the least value, then the least requirement. None exactly where none is possible. If there was
     /// none in any cell, the cells that are looked at aren't asked about again before one of them changes. By what is
     /// kept of the term some needn't be asked about at all.
-    pub(crate) fn first_drop(
+    pub(crate) fn first_drop<S: Spares>(
         &mut self,
         alloc: Global,
         own: TermRequirements<'_>,
         last: u32,
         kept: Option<&KeptTerm>,
+        spares: &S,
         cells: &Boxed,
     ) -> Result<Option<Removal>, Memory>
         requires looks { LooksIn self.old.machine cells.now.present }
         requires kept { IsKeptIfKnown own.all.now own.term self.old.machine cells.now.present
             (option_map (λ t. t.now) kept) }
+        requires spares { Tells S.knows own.all.now own.term self.old.machine cells.now.present spares.now }
         requires known { AreKnown cells.now.present self.old }
         ensures known { StillKnown cells.now.present self.old self.new }
         ensures found { IfOk result (λ found. IsFirstOf
@@ -119,7 +123,7 @@ impl<'a> BoxTables<'a> {
         if outside.is_none() && self.is_quiet(own) {
             return Ok(None);
         }
-        let found = self.drop_in_cells(alloc, own, outside, last, kept, cells)?;
+        let found = self.drop_in_cells(alloc, own, outside, last, kept, spares, cells)?;
         self.remember(alloc, own, found, last, cells)?;
         Ok(found)
     }
@@ -146,18 +150,20 @@ impl<'a> BoxTables<'a> {
 
     /// The first of the drops by these requirements up to cell `last`, where `outside` is refuted outside the window.
     /// Cells of which all values are known to be spared are passed over, so no row is made for them.
-    fn drop_in_cells(
+    fn drop_in_cells<S: Spares>(
         &mut self,
         alloc: Global,
         own: TermRequirements<'_>,
         outside: Option<u32>,
         last: u32,
         kept: Option<&KeptTerm>,
+        spares: &S,
         cells: &Boxed,
     ) -> Result<Option<Removal>, Memory>
         requires outside { IsRefutedOutside own.all.now own.term self.old.machine cells.now.present outside }
         requires kept { IsKeptIfKnown own.all.now own.term self.old.machine cells.now.present
             (option_map (λ t. t.now) kept) }
+        requires spares { Tells S.knows own.all.now own.term self.old.machine cells.now.present spares.now }
         requires looks { LooksIn self.old.machine cells.now.present }
         requires known { AreKnown cells.now.present self.old }
         ensures known { StillKnown cells.now.present self.old self.new }
@@ -170,7 +176,7 @@ impl<'a> BoxTables<'a> {
             if limit >= CELL_VALUE {
                 continue;
             }
-            let found = self.drop_at(alloc, before + 1, own, outside, limit, cells)?;
+            let found = self.drop_at(alloc, before + 1, own, outside, limit, spares, cells)?;
             if found.is_some() {
                 return Ok(found);
             }
@@ -228,18 +234,20 @@ impl<'a> BoxTables<'a> {
 
     /// The first of the drops at cell `k`, where `outside` is refuted if that is outside the window. None is of a
     /// value up to the limit. No row is made for a cell that has one value alone.
-    fn drop_at(
+    fn drop_at<S: Spares>(
         &mut self,
         alloc: Global,
         k: u32,
         own: TermRequirements<'_>,
         outside: Option<u32>,
         limit: i64,
+        spares: &S,
         cells: &Boxed,
     ) -> Result<Option<Removal>, Memory>
         requires usable { IsUsable self.old.machine k cells.now.present }
         requires outside { IsRefutedOutside own.all.now own.term self.old.machine cells.now.present outside }
         requires spared { IsSparedAt own.all.now own.term self.old.machine cells.now.present k limit }
+        requires spares { Tells S.knows own.all.now own.term self.old.machine cells.now.present spares.now }
         requires looks { LooksIn self.old.machine cells.now.present }
         requires known { AreKnown cells.now.present self.old }
         ensures known { StillKnown cells.now.present self.old self.new }
@@ -254,7 +262,7 @@ impl<'a> BoxTables<'a> {
         }
         let asked = Question::each_met(own);
         self.make_at(alloc, asked, k, cells)?;
-        Ok(drop_in_cell(&self.hulls_at(k, cells), asked, own, limit))
+        Ok(drop_in_cell(&self.hulls_at(k, cells), asked, own, limit, spares))
     }
 
     /// How many cells come before the first that may be used: all but the last where the machine can't be split.
@@ -274,16 +282,18 @@ impl<'a> BoxTables<'a> {
 
 /// The first of the drops at one cell by these requirements, none of which is of a value up to the limit. Most values
 /// are passed over without being found: pairs of states settle that none of the requirements is refuted there.
-fn drop_in_cell(
+fn drop_in_cell<S: Spares>(
     hulls: &CellHulls<'_>,
     asked: Question<'_>,
     own: TermRequirements<'_>,
     limit: i64,
+    spares: &S,
 ) -> Option<Removal>
     requires usable { IsUsable hulls.now.machine hulls.now.cell hulls.now.cells }
     requires serves { Serves hulls.now asked }
     requires asked { AsksEach own asked }
     requires spared { IsSparedAt own.all.now own.term hulls.now.machine hulls.now.cells hulls.now.cell limit }
+    requires spares { Tells S.knows own.all.now own.term hulls.now.machine hulls.now.cells spares.now }
     ensures { IsFirstOf (IsDropAt own.entry.all.now own.entry.term
         hulls.now.machine hulls.now.cells hulls.now.cell) result }
 {
@@ -293,10 +303,15 @@ fn drop_in_cell(
         return None;
     }
     let above = count_up_to(values, limit);
+    let mut told = Told {
+        free: false,
+        to: limit,
+    };
     let mut i = hulls.settled_to(asked, above, values.size());
     while i < values.size() {
         let value = values.nth(i);
-        if let Some(require) = hulls.first_refuted(asked, own, i, value) {
+        told = told_of(told, hulls, own, value, spares);
+        if let Some(require) = first_dropping(hulls, asked, own, i, value, told.free) {
             return Some(Removal {
                 cell,
                 value,
@@ -306,6 +321,53 @@ fn drop_in_cell(
         i = hulls.settled_further(asked, i + 1, values.size());
     }
     None
+}
+
+/// What is known of the value `v` of the cell, and of those after it: what was told of the one before, as far as that
+/// goes, or what is told of this one.
+fn told_of<S: Spares>(
+    told: Told,
+    hulls: &CellHulls<'_>,
+    own: TermRequirements<'_>,
+    v: i64,
+    spares: &S,
+) -> Told
+    requires usable { IsUsable hulls.now.machine hulls.now.cell hulls.now.cells }
+    requires many { 2 ≤ length (values_at hulls.now.cell hulls.now.cells) }
+    requires value { Contains (values_at hulls.now.cell hulls.now.cells) v }
+    requires spares { Tells S.knows own.all.now own.term hulls.now.machine hulls.now.cells spares.now }
+    ensures to { v ≤ℤ result.to }
+    ensures told { (result ≡ told) ⊎ AreFree own.entry.all.now own.entry.term
+        hulls.now.machine hulls.now.cells hulls.now.cell v result }
+{
+    if v <= told.to {
+        return told;
+    }
+    spares.tell(own.all, own.term, hulls.cell(), v, hulls.cells)
+}
+
+/// The number of the first of these requirements that drops the value `v` at place `i` of the cell. No span is asked
+/// for where it is known that none does.
+fn first_dropping(
+    hulls: &CellHulls<'_>,
+    asked: Question<'_>,
+    own: TermRequirements<'_>,
+    i: u64,
+    v: i64,
+    free: bool,
+) -> Option<u32>
+    requires serves { Serves hulls.now asked }
+    requires asked { AsksEach own asked }
+    requires value { slice_get (values_at hulls.now.cell hulls.now.cells) i ≡ Some v }
+    requires free { IsTrue free → IsFirstRefuting own.all.now own.term
+        (value_span hulls.now.machine hulls.now.cell hulls.now.cells v) None }
+    ensures { IsFirstRefuting own.entry.all.now own.entry.term
+        (value_span hulls.now.machine hulls.now.cell hulls.now.cells v) result }
+{
+    if free {
+        return None;
+    }
+    hulls.first_refuted(asked, own, i, v)
 }
 
 /// How many values come first that are at most the limit. It may lie in a gap between two of them.

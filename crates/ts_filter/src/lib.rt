@@ -7,7 +7,7 @@
 //! the same questions for the machines of all terms, of a box that was brought before, and keeps the rows of hulls for
 //! the next box, as far as the change between the two doesn't reach them: how they are made, kept and found again is
 //! the business of ts_bound. `bring` finds out by itself what has changed. At cells of which its user knows that they
-//! have no drop (`KeptCells`) nothing is asked.
+//! have no drop (`KeptCells`) nothing is asked, and no span of a value of which the user tells so then (`Spares`).
 //! The definitions state the rule of each line of a certificate, when a certificate is accepted, its first failing line
 //! and what its claim means; by the laws an accepted certificate means what it claims, whoever wrote it, wherever spans
 //! hold the values of their terms.
@@ -47,6 +47,7 @@ mod many_values;
 mod meeting;
 mod question;
 mod so_far;
+mod spares;
 mod term_requirements;
 
 pub use all_tables::AllTables;
@@ -57,4 +58,5 @@ pub use excluded::{counts, cuts, refutes};
 pub use first_cell::{first_cut, first_refuted};
 pub use kept::kept_value;
 pub use kept_cells::KeptCells;
+pub use spares::{NothingSpared, Spares, Told};
 pub use ts_base::Goal;

@@ -9,6 +9,7 @@ mod CodeTurns
 pub mod DiveLaws
 mod DiveSteps
 pub mod DropLaws
+mod FreeValues
 pub mod Good
 mod Growing
 mod KeptLaws

@@ -1,5 +1,5 @@
 -- What the marks of terms and cells rest on, and how they come.
-use Rattle.std.proofs.Common.{◌≡◌, ℕ, zero, suc, ◌+◌, ◌-◌, ◌<◌, ◌≤◌, ℤ, ◌<ℤ◌, ◌≤ℤ◌, Bool, true, false, List, [], ◌∷◌, length, get_or, map, set, Option, Some, None, slice_get, ◌⊎◌, inl, inr, ⊎_elim, refl, sym, ◌∙◌, ap, subst, arith}
+use Rattle.std.proofs.Common.{◌≡◌, ℕ, zero, suc, ◌+◌, ◌-◌, ◌<◌, ◌≤◌, ℤ, ◌≤ℤ◌, Bool, true, false, List, [], ◌∷◌, length, get_or, map, set, Option, Some, None, slice_get, ◌⊎◌, inl, inr, ⊎_elim, refl, sym, ◌∙◌, ap, subst, arith}
 use Rattle.std.proofs.lemmas.Int.{ints}
 use Rattle.std.proofs.lemmas.Option.{same_Some, slice_get_within}
 use Rattle.std.proofs.lemmas.List.{length-map, length-set}
@@ -172,12 +172,7 @@ pub none_of_other : (q : Problem) (term i : ℕ) (r u : Require) → slice_get q
     slice_get q.model.now.requirements.items i ≡ Some u → u.term ≡ term → ⊥
 none_of_other q term i r u is apart also on = apart (ap (λ (z : Require). z.term) (same_Some r u (sym is ∙ also)) ∙ on)
 
--- below the least value of a cell there is none to be dropped
-pub none_under : (q : Problem) (b : Box) (cell j : ℕ) (values : Interval) (limit v : ℤ) → IsEnds (values_at cell b) values → limit <ℤ values.low → v ≤ℤ limit →
-    IsDrop q.model.now.requirements.items (search_of q).spans cell v j b → ⊥
-none_under q b cell j values limit v ends less up drop = let low = (ends.all v drop.there).0 in omega (arith, ints, low, less, up)
-
--- above the greatest there is none either
+-- above the greatest value of a cell there is none to be dropped
 pub none_over : (q : Problem) (b : Box) (term cell : ℕ) (values : Interval) (limit more : ℤ) → IsEnds (values_at cell b) values →
     (more ≡ limit) ⊎ (limit ≡ values.high) → IsSpared q.model.now.requirements.items (search_of q).spans b term cell limit →
     IsSpared q.model.now.requirements.items (search_of q).spans b term cell more
@@ -191,13 +186,13 @@ SparedBelow q b at limit n =
     (i : ℕ) (r : Require) → i < n → slice_get q.model.now.requirements.items i ≡ Some r → r.term ≡ at.term →
     (v : ℤ) → v ≤ℤ limit → IsDrop q.model.now.requirements.items (search_of q).spans at.cell v (i + 1) b → ⊥
 
-below_split : (k i : ℕ) → k < i + 1 → (k ≡ i → ⊥) → k < i
+pub below_split : (k i : ℕ) → k < i + 1 → (k ≡ i → ⊥) → k < i
 below_split zero zero l n = absurd (n refl)
 below_split zero (suc i) l n = omega arith
 below_split (suc k) zero l n = absurd (omega (arith, l))
 below_split (suc k) (suc i) l n = let h = below_split k i (omega (arith, l)) (λ z. n (ap suc z)) in omega (arith, h)
 
-same_or_other : (i n : ℕ) → (i ≡ n) ⊎ (i ≡ n → ⊥)
+pub same_or_other : (i n : ℕ) → (i ≡ n) ⊎ (i ≡ n → ⊥)
 same_or_other zero zero = inl refl
 same_or_other zero (suc n) = inr (λ e. omega (arith, e))
 same_or_other (suc i) zero = inr (λ e. omega (arith, e))

@@ -7,9 +7,9 @@ use Rattle.ts_bound.specs.Looks.{count_looked, is_looked, place_in}
 use Rattle.ts_bound.specs.TermSpans.{Automata, automata_of}
 use Rattle.ts_domain.specs.declared.interval.Interval.{Interval}
 use Rattle.ts_domain.specs.BoxSeries.{InBox}
-use Rattle.ts_filter.specs.Boxes.{Box}
+use Rattle.ts_filter.specs.Boxes.{Box, IsPart}
 use Rattle.ts_filter.specs.KeptCells.{AreKept, AreSized, unknown}
-use Rattle.ts_filter.specs.RefutedWorseDrop.{IsRequirement}
+use Rattle.ts_filter.specs.RefutedWorseDrop.{IsRequirement, Spans}
 use Rattle.ts_glue.specs.Machines.{window_of}
 use Rattle.ts_model.specs.declared.model.Require.{Require}
 use Rattle.ts_model.specs.Views.{model_parts}
@@ -18,6 +18,7 @@ use Rattle.ts_witness.specs.KnownValues.{AreBeside, IsSpared}
 use Rattle.ts_witness.specs.Laws.{IsAlive}
 use Rattle.ts_witness.specs.Witnesses.{IsWitness, series_of}
 use Rattle.ts_search.specs.LineOf.{last, requirements}
+use Rattle.ts_search.specs.Posed.{IsPosed}
 use Rattle.ts_search.specs.Views.{search_of}
 use Rattle.ts_search.specs.declared.marked.Looked.{Looked}
 use Rattle.ts_search.specs.declared.problem.Problem.{Problem}
@@ -97,3 +98,12 @@ abbrev pub CanSpare : Problem → Looked → Type 0
 CanSpare q at =
     (a : Automata) → slice_get (automata_in (model_parts q.model.now)) at.term ≡ Some a →
     IsSome a.pair × (is_looked a.window at.cell ≡ true) × (place_in a.window at.cell ≡ at.place)
+
+-- the witnesses are those of a problem, on a part of its box, with these requirements and spans
+pub record Knows (requirements : List Require) (s : Spans) (b : Box) (w : Witnesses) : Type 0 where
+  pub problem : Problem
+  pub posed : IsPosed problem
+  pub part : IsPart b (search_of problem).model.cells
+  pub shown : AreShown problem w b
+  pub same : requirements ≡ problem.model.now.requirements.items
+  pub spans : s ≡ (search_of problem).spans

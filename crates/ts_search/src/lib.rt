@@ -31,6 +31,7 @@ mod pace;
 mod problem;
 mod seeking;
 mod shown;
+mod sparing;
 mod tree;
 mod witnesses;
 

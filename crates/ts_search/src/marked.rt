@@ -135,7 +135,8 @@ impl<'a> Witnesses<'a> {
     }
 
     /// Up to which value, `limit` at most, the requirement at place `i`, counted from 0, drops none of the cell, whose
-    /// domain has these ends; `limit` where it is on another term.
+    /// domain has these ends; `limit` where it is on another term. Its witness is asked even where no value is left, so
+    /// that its runs are known there.
     fn spares_by_one(
         &mut self,
         problem: &Problem<'_>,
@@ -166,9 +167,6 @@ impl<'a> Witnesses<'a> {
     {
         let r = &problem.model.requirements[i];
         if r.term != at.term {
-            return limit;
-        }
-        if limit < values.low {
             return limit;
         }
         self.each[i].spares_up_to(r, at.place, values.low, limit)

@@ -145,7 +145,7 @@ impl<'a> Problem<'a> {
     }
 
     /// The drop that comes next; without a requirement there is none. Nothing is asked of tables where the witnesses
-    /// show that no value is dropped.
+    /// show that no value is dropped, and no span of a value with which they still meet the requirements.
     pub(crate) fn next_drop(
         &self,
         alloc: Global,
@@ -164,7 +164,8 @@ impl<'a> Problem<'a> {
             return Ok(None);
         }
         witnesses.mark(self, cells);
-        tables.next_drop(alloc, &self.model.requirements, cells, &witnesses.kept)
+        let shown: &Witnesses<'_> = witnesses;
+        tables.next_drop(alloc, &self.model.requirements, cells, &shown.kept, shown)
     }
 }
 

@@ -1,10 +1,11 @@
 //! A witness of a requirement, brought into one box after the other.
 
 ghost use Rattle.std.specs.Prelude.{◌≡◌, ◌≤◌, ◌≤ℤ◌, ◌-◌, ℤ, [], Contains, IfOk, IsSome, IsTrue, Some};
-ghost use Rattle.std.specs.Prelude.{false, get_or, length, slice_get};
+ghost use Rattle.std.specs.Prelude.{false, true, get_or, length, slice_get};
 ghost use Rattle.ts_automaton.specs.AutomatonRun.{answer};
-ghost use Rattle.ts_base.specs.Limits.{most_cells};
+ghost use Rattle.ts_base.specs.Limits.{IsCellValue, most_cells};
 ghost use Rattle.ts_base.specs.Windows.{LooksInside, looked_at};
+ghost use Rattle.ts_bound.specs.Looks.{count_looked, is_looked, place_in};
 ghost use Rattle.ts_bound.specs.TermSpans.{LooksIn, automata_of};
 ghost use Rattle.ts_domain.specs.BoxSeries.{InBox, IsBox};
 ghost use Rattle.ts_glue.specs.Machines.{forward_of, pair_of, window_of};
@@ -19,6 +20,7 @@ use std::alloc::Global;
 use ts_base::{Memory, Range};
 use ts_bound::ends;
 use ts_domain::{Boxed, Domain};
+use ts_filter::Told;
 use ts_glue::Machine;
 use ts_model::Require;
 use ts_witness::{Spared, Witness};
@@ -31,6 +33,12 @@ const SOON: u32 = 8;
 
 /// On the first of so many boxes it is bettered at all cells that have a choice.
 const EACH: u32 = 32;
+
+/// Nothing is known of any value.
+pub(crate) const UNTOLD: Told = Told {
+    free: false,
+    to: i64::MAX,
+};
 
 /// The machine of a requirement's term, a series of the cells that it looks at, what is known of other values of each
 /// cell, whether the series is known to meet the requirement, and on how many boxes it hasn't since it last did.
@@ -264,6 +272,36 @@ impl<'a> Shown<'a> {
         let witness = &mut self.witness;
         self.spared
             .keeps_up_to(witness, self.machine, r, k, low, high)
+    }
+
+    /// What is known of the values from `v` on of cell `k` of `n`: the requirement drops none with which the series,
+    /// which meets it, still does. Nothing is run.
+    pub(crate) fn tell(&self, r: &Require, k: u32, v: i64, n: u32) -> Told
+        requires held { IsHeld r.now self.now }
+        requires looks { LooksInside n (window_of self.now.machine.now) }
+        requires few { length (series_of self.now.witness) ≤ most_cells }
+        requires count { length (series_of self.now.witness) ≡ count_looked (window_of self.now.machine.now) n }
+        requires domains { length self.now.spared.cells.now ≡ length (series_of self.now.witness) }
+        requires from { 1 ≤ k }
+        requires to { k ≤ n }
+        requires value { IsCellValue v }
+        ensures to { v ≤ℤ result.to }
+        ensures looked { IsTrue result.free → is_looked (window_of self.now.machine.now) k ≡ true }
+        ensures kept { IsTrue result.free → (w : ℤ) → v ≤ℤ w → w ≤ℤ result.to → IsKept (automata_of
+            self.now.machine.now) r.now (series_of self.now.witness) (place_in (window_of self.now.machine.now) k) w }
+    {
+        if !self.met || self.machine.reverse().is_none() {
+            return UNTOLD;
+        }
+        let (first, last) = ends(self.machine.window(), n);
+        if k < first || last < k {
+            return UNTOLD;
+        }
+        let place = k - (first - 1);
+        let (free, to) = self
+            .spared
+            .keeps_from(&self.witness, self.machine, r, place, v);
+        Told { free, to }
     }
 }
 

@@ -1,6 +1,6 @@
 //! What need not be asked of a box, since a series of it meets a requirement.
 
-ghost use Rattle.std.specs.Prelude.{◌≡◌, ◌≤◌, ◌-◌, IsSome, IsTrue, length, set};
+ghost use Rattle.std.specs.Prelude.{◌≡◌, ◌≤◌, ◌-◌, IsSome, IsTrue, length, set, true};
 ghost use Rattle.ts_automaton.specs.AutomatonRun.{AreCellValues, answer};
 ghost use Rattle.ts_base.specs.Limits.{IsCellValue, most_cells};
 ghost use Rattle.ts_glue.specs.Machines.{forward_of, pair_of};
@@ -46,5 +46,23 @@ impl Witness {
         ensures kept { IsTrue result → IsKept (automata_of m.now) r.now (series_of self.old) k v }
     {
         satisfies(r.op, r.bound, self.value_with(m, k, v))
+    }
+    /// Whether the series with `v` at place `k`, counted from 1, meets a requirement on the term of this machine, which
+    /// can be split, as far as the runs are known: where that takes more than they are, the answer is no.
+    pub(crate) fn is_known_to_keep(&self, m: &Machine, r: &Require, k: u32, v: i64) -> bool
+        requires split { IsSome (pair_of m.now) }
+        requires witness { IsWitness m.now self.now }
+        requires few { length (series_of self.now) ≤ most_cells }
+        requires cells { AreCellValues (series_of self.now) }
+        requires from { 1 ≤ k }
+        requires to { k ≤ length (series_of self.now) }
+        requires value { IsCellValue v }
+        ensures { IsTrue result → compares r.now.op r.now.bound
+            (answer (forward_of m.now) (set (series_of self.now) (k - 1) v)) ≡ true }
+    {
+        match self.known_value_with(m, k, v) {
+            Some(value) => satisfies(r.op, r.bound, value),
+            None => false,
+        }
     }
 }

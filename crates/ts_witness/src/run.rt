@@ -85,7 +85,7 @@ impl Run {
     }
 
     /// Where the automaton stands after the cells before place `i` and then the value `v`, once these are known.
-    fn arrived(&self, a: &Automaton, i: usize, v: i64) -> At
+    pub(crate) fn arrived(&self, a: &Automaton, i: usize, v: i64) -> At
         requires runs { Runs a.now self.now }
         requires known { i ≤ self.now.known }
         ensures value { standing_of result ≡ after a.now (take i (cells_in self.now) ++ v ∷ []) }

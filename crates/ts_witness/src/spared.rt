@@ -1,7 +1,7 @@
 //! What is known of the values of each cell, so that it isn't asked again where the runs have come to the same.
 
 ghost use Rattle.std.specs.Prelude.{◌≡◌, ◌↔◌, ◌⊎◌, ◌≤◌, ◌<ℤ◌, ◌≤ℤ◌, ◌-◌, ℤ, [], Contains, IfOk, IfSome, IsSome, IsSomeAnd, IsTrue};
-ghost use Rattle.std.specs.Prelude.{List, Some, get_or, length, slice_get};
+ghost use Rattle.std.specs.Prelude.{◌<◌, List, Some, get_or, length, slice_get};
 ghost use Rattle.ts_automaton.specs.AutomatonRun.{AreCellValues};
 ghost use Rattle.ts_base.specs.Limits.{IsCellValue, most_cells};
 ghost use Rattle.ts_bound.specs.TermSpans.{automata_of};
@@ -178,6 +178,46 @@ impl<'a> Spared<'a> {
         limit
     }
 
+    /// Whether the series is known to meet the requirement with `v` at cell `k`, counted from 1, as far as the runs are
+    /// known; and a number up to which the answer is the same for all from `v` on.
+    pub fn keeps_from(
+        &self,
+        witness: &Witness,
+        m: &Machine,
+        r: &Require,
+        k: u32,
+        v: i64,
+    ) -> (bool, i64)
+        requires split { IsSome (pair_of m.now) }
+        requires witness { IsWitness m.now witness.now }
+        requires few { length (series_of witness.now) ≤ most_cells }
+        requires cells { AreCellValues (series_of witness.now) }
+        requires from { 1 ≤ k }
+        requires to { k ≤ length (series_of witness.now) }
+        requires count { length self.now.cells.now ≡ length (series_of witness.now) }
+        requires spared { IsSpared m.now r.now self.now }
+        requires value { IsCellValue v }
+        ensures to { v ≤ℤ result.1 }
+        ensures kept { IsTrue result.0 → (w : ℤ) → v ≤ℤ w → w ≤ℤ result.1 →
+            IsKept (automata_of m.now) r.now (series_of witness.now) k w }
+    {
+        let to = alike_up_to(witness, m, self.letters, k, v);
+        if self.is_hard(k as usize - 1, v) {
+            return (false, to);
+        }
+        (witness.is_known_to_keep(m, r, k, v), to)
+    }
+
+    /// Whether the series is known not to meet the requirement with `v` at place `i`, counted from 0. What is noted may
+    /// be one too many to be tried, where the cell has many values below.
+    fn is_hard(&self, i: usize, v: i64) -> bool
+        requires noted { i < length self.now.each.items }
+        requires place { i < length self.now.cells.now }
+        requires value { IsCellValue v }
+    {
+        is_between(self.each[i].hard, v, v) && v - self.cells[i].least() < MOST_TRIED as i64
+    }
+
     /// Forgets what is known of cell `k`, counted from 1, if the runs have something else beside it now.
     fn bring_beside(&mut self, witness: &mut Witness, m: &Machine, k: u32)
         requires split { IsSome (pair_of m.now) }
@@ -273,6 +313,24 @@ fn meets_up_to(
         like = some_if(letters, v);
     }
     high
+}
+
+/// A number up to which the machine answers the same with each from `v` on at cell `k`, counted from 1: `v` where its
+/// steps aren't by letters alone.
+fn alike_up_to(witness: &Witness, m: &Machine, letters: bool, k: u32, v: i64) -> i64
+    requires letters { IsTrue letters → ReadsLetters (forward_of m.now) }
+    requires cells { AreCellValues (series_of witness.now) }
+    requires from { 1 ≤ k }
+    requires to { k ≤ length (series_of witness.now) }
+    ensures to { v ≤ℤ result }
+    ensures alike { (r : Require) (w : ℤ) → v ≤ℤ w → w ≤ℤ result →
+        MeetsWith (forward_of m.now) r (series_of witness.now) (k - 1) v →
+        MeetsWith (forward_of m.now) r (series_of witness.now) (k - 1) w }
+{
+    if !letters {
+        return v;
+    }
+    witness.alike_up_to(k, v)
 }
 
 /// The number before a value of a cell.

@@ -1,7 +1,7 @@
 //! A series with its value, and the value of each series that differs from it in one cell.
 
 ghost use Rattle.std.specs.Prelude.{◌≡◌, ◌<◌, ◌≤◌, ◌-◌, ◌+◌, ◌⊎◌, ◌++◌, ◌∷◌, ℤ, [], IfOk, IfSome, IsSome, IsTrue, Some};
-ghost use Rattle.std.specs.Prelude.{length, reverse, set, slice_get, take};
+ghost use Rattle.std.specs.Prelude.{◌≤ℤ◌, length, reverse, set, slice_get, take};
 ghost use Rattle.ts_automaton.specs.AutomatonRun.{AreCellValues, Stands, after, answer, standing_of};
 ghost use Rattle.ts_base.specs.Limits.{IsCellValue, most_cells};
 ghost use Rattle.ts_base.specs.Signature.{letter_of, signature_of};
@@ -110,6 +110,28 @@ impl Witness {
         glue_value(m, left, right, v, n as u32)
     }
 
+    /// The value of the series with `v`, from -1,000,000 to 1,000,000, at cell `k`, counted from 1, if both runs are
+    /// known up to that cell: nothing is run. Only for a machine that can be split.
+    pub(crate) fn known_value_with(&self, m: &Machine, k: u32, v: i64) -> Option<Ext>
+        requires split { IsSome (pair_of m.now) }
+        requires witness { IsWitness m.now self.now }
+        requires few { length (series_of self.now) ≤ most_cells }
+        requires cells { AreCellValues (series_of self.now) }
+        requires from { 1 ≤ k }
+        requires to { k ≤ length (series_of self.now) }
+        requires value { IsCellValue v }
+        ensures { IfSome result (λ x. x ≡ answer (forward_of m.now) (set (series_of self.now) (k - 1) v)) }
+    {
+        let n = self.ahead.cells.len();
+        let i = k as usize;
+        if self.ahead.known < i - 1 || self.behind.known < n - i {
+            return None;
+        }
+        let ahead = self.ahead.arrived(m.forward(), i - 1, v);
+        let behind = arrived_behind(&self.behind, m, n - i, v);
+        Some(glue_value(m, ahead, behind, v, n as u32))
+    }
+
     /// What both runs have beside cell `k`, counted from 1. Only for a machine that can be split.
     pub(crate) fn sides(&mut self, m: &Machine, k: u32) -> Sides
         requires split { IsSome (pair_of m.now) }
@@ -161,6 +183,20 @@ impl Witness {
         are_like_before(cells, i, u, v)
     }
 
+    /// A number up to which all from `v` on at cell `k`, counted from 1, compare with the cells beside it as `v` does.
+    pub(crate) fn alike_up_to(&self, k: u32, v: i64) -> i64
+        requires cells { AreCellValues (series_of self.now) }
+        requires from { 1 ≤ k }
+        requires to { k ≤ length (series_of self.now) }
+        ensures to { v ≤ℤ result }
+        ensures alike { (w : ℤ) → v ≤ℤ w → w ≤ℤ result →
+            signature_of (set (series_of self.now) (k - 1) v) ≡ signature_of (set (series_of self.now) (k - 1) w) }
+    {
+        let cells = self.ahead.cells.as_slice();
+        let i = k as usize - 1;
+        alike_after(cells, i, v).min(alike_before(cells, i, v))
+    }
+
     /// The value of cell `k`, counted from 1, from now on.
     pub fn set(&mut self, k: u32, v: i64)
         requires from { 1 ≤ k }
@@ -194,6 +230,50 @@ fn are_like_before(cells: &[i64], i: usize, u: i64, v: i64) -> bool
     cells.len() <= i + 1 || are_like(cells[i + 1], u, v)
 }
 
+/// A number up to which all from `v` on compare as `v` does with the cell before place `i`, if there is one.
+fn alike_after(cells: &[i64], i: usize, v: i64) -> i64
+    requires cells { AreCellValues cells.now }
+    requires place { i < length cells.now }
+    ensures to { v ≤ℤ result }
+    ensures alike { (w : ℤ) → v ≤ℤ w → w ≤ℤ result →
+        (i ≡ 0) ⊎ ((x : ℤ) → slice_get cells.now (i - 1) ≡ Some x → letter_of x v ≡ letter_of x w) }
+{
+    if i == 0 {
+        return i64::MAX;
+    }
+    alike_to(cells[i - 1], v)
+}
+
+/// A number up to which all from `v` on compare as `v` does with the cell after place `i`, if there is one.
+fn alike_before(cells: &[i64], i: usize, v: i64) -> i64
+    requires cells { AreCellValues cells.now }
+    requires place { i < length cells.now }
+    ensures to { v ≤ℤ result }
+    ensures alike { (w : ℤ) → v ≤ℤ w → w ≤ℤ result →
+        (length cells.now ≤ i + 1) ⊎ ((x : ℤ) → slice_get cells.now (i + 1) ≡ Some x → letter_of v x ≡ letter_of w x) }
+{
+    if cells.len() <= i + 1 {
+        return i64::MAX;
+    }
+    alike_to(cells[i + 1], v)
+}
+
+/// A number up to which all from `v` on compare with `x` as `v` does.
+fn alike_to(x: i64, v: i64) -> i64
+    requires { IsCellValue x }
+    ensures to { v ≤ℤ result }
+    ensures after { (w : ℤ) → v ≤ℤ w → w ≤ℤ result → letter_of x v ≡ letter_of x w }
+    ensures before { (w : ℤ) → v ≤ℤ w → w ≤ℤ result → letter_of v x ≡ letter_of w x }
+{
+    if v < x {
+        x - 1
+    } else if v == x {
+        v
+    } else {
+        i64::MAX
+    }
+}
+
 /// Whether `u` and `v` compare in the same way with `x`.
 fn are_like(x: i64, u: i64, v: i64) -> bool
     ensures after { IsTrue result → letter_of x u ≡ letter_of x v }
@@ -215,6 +295,21 @@ fn arrive_behind(run: &mut Run, m: &Machine, j: usize, v: i64) -> At
 {
     match m.reverse() {
         Some(reverse) => run.with(reverse, j, v),
+        None => unreachable!(),
+    }
+}
+
+/// Where the reverse automaton stands after the last `j` cells, which are known, and then the value `v`.
+fn arrived_behind(run: &Run, m: &Machine, j: usize, v: i64) -> At
+    requires split { IsSome (pair_of m.now) }
+    requires runs { (p : Pair) → pair_of m.now ≡ Some p → Runs p.reverse run.now }
+    requires known { j ≤ run.now.known }
+    ensures value { (p : Pair) → pair_of m.now ≡ Some p →
+        standing_of result ≡ after p.reverse (take j (cells_in run.now) ++ v ∷ []) }
+    ensures stands { IfSome (reverse_of m.now) (λ b. Stands b (standing_of result)) }
+{
+    match m.reverse() {
+        Some(reverse) => run.arrived(reverse, j, v),
         None => unreachable!(),
     }
 }

@@ -14,7 +14,7 @@ use std::slice;
 use ts_base::Memory;
 use ts_base::limits::CELL_VALUE;
 use ts_domain::Boxed;
-use ts_filter::{AllTables, KeptCells, Removal};
+use ts_filter::{AllTables, KeptCells, NothingSpared, Removal};
 use ts_glue::Machine;
 use ts_model::Require;
 
@@ -58,5 +58,5 @@ pub(super) fn drop_by_kept(
     let kept = singles(alloc, cells)?;
     let mut tables = AllTables::new(alloc, slice::from_ref(m), requirements, None, &[])?;
     tables.bring(alloc, cells)?;
-    tables.next_drop(alloc, requirements, cells, &kept)
+    tables.next_drop(alloc, requirements, cells, &kept, &NothingSpared)
 }

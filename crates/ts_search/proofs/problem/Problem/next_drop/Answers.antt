@@ -55,3 +55,13 @@ pub returns-then-requirements-eq0-clause-found : goal.returns-then-requirements-
 returns-then-requirements-eq0-clause-found c =
     never_dropped c.args.self.now c.requires.asked.posed c.args.cells.now.present c.requires.asked.part
     (sym c.requirements.ensures.count ∙ c.if-requirements-eq0.true)
+
+pub next_drop-requires-clause-spares : goal.next_drop-requires-clause-spares
+next_drop-requires-clause-spares c = record {
+  problem = c.args.self.now;
+  posed = c.requires.asked.posed;
+  part = c.requires.asked.part;
+  shown = c.mark.ensures.shown;
+  same = c.deref.ensures.value;
+  spans = ap spans_of c.requires.asked.tables;
+}

@@ -1,11 +1,11 @@
-use Rattle.std.proofs.Common.{rules, ◌≡◌, ◌<◌, ◌<ℤ◌, ◌≤ℤ◌, ◌+◌, ◌-◌, ◌∙◌, refl, sym, subst, length, vec_len, arith, w64, to_z, of_z}
+use Rattle.std.proofs.Common.{rules, ◌≡◌, ◌≤ℤ◌, refl, sym, subst, length, vec_len, arith, w64, to_z, of_z}
 use Rattle.std.specs.Prelude.{Contains}
 use Rattle.std.specs.Vec.{with_item}
-use Rattle.std.proofs.lemmas.Int.{ints, to_z-of_z}
+use Rattle.std.proofs.lemmas.Int.{to_z-of_z}
 use Rattle.std.proofs.lemmas.Option.{slice_get_within}
 use Rattle.ts_filter.specs.Boxes.{values_at}
 use Rattle.ts_search.specs.declared.witnesses.Witnesses.{Witnesses}
-use Rattle.ts_search.proofs.Marks.{met_after, met_there, none_of_other, none_under, shown_after, spared_there, spares_count, spares_few, spares_from, spares_split, spares_to, value_known}
+use Rattle.ts_search.proofs.Marks.{met_after, met_there, none_of_other, shown_after, spared_there, spares_count, spares_few, spares_from, spares_split, spares_to, value_known}
 use Rattle.ts_search.proofs.Witnessed.{found}
 use Rattle.ts_search.proofs.witnesses.Witnesses.spares_by_one.Goals as goal
 
@@ -131,16 +131,10 @@ returns-clause-spared c =
     (λ v has low up. c.spares_up_to.ensures.kept v has (subst (λ z. z ≤ℤ v) (sym (to_z-of_z w64 c.args.values.low (search rules))) low) up) v
     (subst (λ z. v ≤ℤ z) (to_z-of_z w64 c.spares_up_to.result (search rules)) up)
 
--- of another term, or where no value is left
+-- of another term
 
 pub returns-then-r-at-clause-spared : goal.returns-then-r-at-clause-spared
 returns-then-r-at-clause-spared c =
     let q = c.args.problem.now in
     let is = found q.model.now.requirements.items c.args.i c.index-r.result.now c.index-r.ensures c.requires.place in
     λ u require on v up drop. none_of_other q c.args.at.term c.args.i c.index-r.result.now u is c.if-r-at.true require on
-
-pub returns-then-limit-values-clause-spared : goal.returns-then-limit-values-clause-spared
-returns-then-limit-values-clause-spared c =
-    let less = c.if-limit-values.true in let low = to_z-of_z w64 c.args.values.low (search rules) in
-    λ u require on v up drop. none_under c.args.problem.now c.args.cells.now.present c.args.at.cell (c.args.i + 1) c.args.values
-    (to_z w64 (of_z w64 c.args.limit)) v c.requires.ends (omega (arith, ints, less, low)) up drop
