@@ -17,7 +17,7 @@ function shown(text) {
     return text
 }
 
-# Writes down a call: its words, its input, and in which way its answer is told right by what is wanted. A slow call
+# Writes down a call: its words, its input, and in which way its answer is compared with what is wanted. A slow call
 # gets its input byte by byte.
 function call(words, input, slow, kind, status, wanted) {
     id++

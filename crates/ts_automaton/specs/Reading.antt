@@ -71,7 +71,7 @@ abbrev pub with_text : Prefix → Option (List ℕ) → Option Prefix
 with_text d None = None
 with_text d (Some line) = with_words d (all_words (words_of line))
 
--- the same of a line with its LF
+-- a prefix with one more line, which has its LF
 abbrev pub with_line : Prefix → List ℕ → Option Prefix
 with_line d text = with_text d (without_lf text)
 

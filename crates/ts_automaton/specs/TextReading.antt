@@ -43,7 +43,7 @@ Reads text (Err (Text line)) = IsAgainstGrammar (strict_lines text) line
 Reads text (Err (Typing line)) = IsAgainstTyping text line
 Reads text (Err Memory) = Unit {0}
 
--- the same of a block in the grammar
+-- what a block in the grammar is read as: an automaton, or the line at which its typing fails, unless memory ran out
 abbrev pub Judges : Sheet → Result Body AutoStop → Type 0
 Judges b (Ok m) = IsTrue (is_automaton m) × (sheet_of b.direction m ≡ b)
 Judges b (Err (Text line)) = ⊥

@@ -12,12 +12,12 @@ use Rattle.ts_bound.specs.Gone.{AreLost}
 use Rattle.ts_bound.specs.Reading.{in_order}
 use Rattle.ts_bound.specs.RowStacks.{AreKept, Kept, Rows, Laid, GoOn, IsPlanned, Sight, Stack, rows_seen, seen_by, sight}
 
--- these are what is seen of the rows of the cells that the automaton reads first
+-- the rows are what is seen of those of the cells that the automaton reads first
 abbrev pub AreFirst : Sight → Box → Rows → Type 0
 AreFirst a cells rows = rows ≡ take (length rows) (rows_seen a cells)
 
 -- the rows are made by the plan of the automaton; the known ones are those of the cells that it reads first, and from a
--- place on each of those that lie there is followed by its next one; what is kept of a row is right behind the cells
+-- place on each of those that lie there is followed by its next one; what is kept of a row is right after the cells
 -- before it
 pub record AreRows (a : Body) (cells : Box) (s : Stack) : Type 0 where
   pub planned : IsPlanned a s.planned
@@ -30,7 +30,7 @@ abbrev pub IsPlannedBack : Option Pair → Planned → Type 0
 IsPlannedBack None p = Unit {0}
 IsPlannedBack (Some m) p = IsPlanned m.reverse p
 
--- these are backward rows; a machine that can't be split has none
+-- the rows are backward rows; a machine that can't be split has none
 abbrev pub AreBehind : Option Pair → Sides → Box → Rows → Type 0
 AreBehind None ends b rows = Unit {0}
 AreBehind (Some p) ends b rows = AreFirst (sight p.reverse ends) (in_order FromLast b) rows

@@ -116,7 +116,7 @@ pub record GoOn (a : Sight) (cells : Box) (rows : Rows) (from : ℕ) : Type 0 wh
   pub few : length rows ≤ length cells
   pub each : (i : ℕ) → from ≤ i → i + 1 < length rows → IsFollowed a cells rows i
 
--- the whole row is that of a cell with the kept values, at place i behind these cells
+-- the whole row is that of a cell with the kept values, at place i after these cells
 abbrev pub IsKept : Sight → Box → ℕ → Kept → Type 0
 IsKept a cells i k =
     0 < length k.values → k.hulls ≡ seen_row a.ends (row_of a.body (reverse (take i cells)) k.values)
@@ -198,7 +198,7 @@ pub record IsKnownAt (at : ℕ) (s : Stack) : Type 0 where
 abbrev pub IsFilled : (values : List ℤ) → (row : List Hull) → (old new : Kept) → Type 0
 IsFilled values row old new = (new ≡ old) ⊎ (new ≡ record { values = values; hulls = row })
 
--- the same, or without some values
+-- what was kept, or what is left of it without some values
 abbrev pub IsLessened : (states : ℕ) → (old new : Kept) → Type 0
 IsLessened states old new = (new ≡ old) ⊎ ((from : ℕ) × (to : ℕ) × (new ≡ kept_without states from to old))
 

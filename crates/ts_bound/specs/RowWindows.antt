@@ -29,7 +29,8 @@ pub record HasLess (gone : Gone) (old new : HullRow) : Type 0 where
   pub laid : (p : Planned) → IsLaid p old → IsLaid p new
   pub kept : (p : Planned) → IsLaid p old → IsLessened p.states (kept_in p.states old) (kept_in p.states new)
 
--- the same, and before that what is shown may be kept
+-- it shows what it showed without the values that are gone; of what is kept, which may first become what was shown,
+-- these may be gone too
 pub record HasLost (gone : Gone) (before : List ℤ) (old new : HullRow) : Type 0 where
   pub hulls : shown new ≡ row_without gone.from gone.to (shown old)
   pub laid : (p : Planned) → IsLaid p old → IsLaid p new

@@ -35,7 +35,7 @@ cut_like (row ∷ rows) xs = take (length row) xs ∷ cut_like rows (drop (lengt
 abbrev pub written_over : {X : Type 0} → List X → ℕ → List X → List X
 written_over xs i ws = take i xs ++ (ws ++ drop (length ws) (drop i xs))
 
--- the same, as long as xs
+-- xs with us over it from its first place on, cut to the length of xs
 abbrev pub refill : {X : Type 0} → List X → List X → List X
 refill xs us = take (length xs) (us ++ drop (length us) xs)
 

@@ -59,7 +59,7 @@ spans_at b (Some p) k cells v = glued_spans p (length cells) (cells_before k cel
 unfoldable pub inner_value_span : Automata → ℕ → List (List ℤ) → ℤ → Span
 inner_value_span m k cells v = span_of_all (spans_at m.forward m.pair k cells v)
 
--- and the hull of the spans of its values
+-- over cells that are all looked at: the span at cell k, the hull of those of its values
 unfoldable pub inner_span : Automata → ℕ → List (List ℤ) → Span
 inner_span m k cells = span_of_all (map (inner_value_span m k cells) (values_at k cells))
 

@@ -24,7 +24,7 @@ pub(crate) fn place_in(values: &[i64], now: &[i64]) -> Option<usize>
     Some(from)
 }
 
-/// The first place of a value, or that behind all values.
+/// The first place of a value, or the one after all values.
 fn first_place(values: &[i64], v: i64) -> usize
     ensures { result ≤ length values.now }
 {

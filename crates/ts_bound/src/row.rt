@@ -15,7 +15,7 @@ use ts_domain::Domain;
 /// hulls of `before` are none or have the kinds of their states. It takes no memory. The steps are in proportion to the
 /// values of both cells for each move that sweeps take in (`swept_parts`: the next cell is at most the last operand of
 /// an expression), and to their pairs for the others; and to their pairs for all where a hull of `before` has a number
-/// above 10^16 in size. A cell whose values have gaps costs a search by halving for each value beside that.
+/// above 10^16 in size. A cell whose values have gaps costs a binary search more for each value.
 pub fn fill_row(
     a: &Automaton,
     before_values: &Domain,

@@ -31,7 +31,7 @@ FirstIsHeld =
     (texts : List (List ℕ)) (stop : CertStop) → length texts < 2 ^ 63 → IsFirst Start 1 texts stop →
     (reading_after fresh texts).stop ≡ Some stop
 
--- an end line that is missing is told at the number of lines plus 1
+-- an end line that is missing is reported at the number of lines plus 1
 abbrev pub EndIsMissed : Type 0
 EndIsMissed =
     (texts : List (List ℕ)) → length texts < 2 ^ 63 → (reading_after fresh texts).stop ≡ None →

@@ -30,7 +30,7 @@ end_from (Some p) = end_made (whole_of p.0) (whole_of p.1)
 abbrev pub end_of : List (List ℕ) → Option (ℕ × ℕ)
 end_of ws = end_from (two_of ws)
 
--- an end line after these counts: the first of its numbers that differs is told beside its count
+-- an end line after these counts: the first of its numbers that differs is reported beside its count
 abbrev pub end_or_stop : ℕ → ℕ → Option (ℕ × ℕ) → Result CertLine LineStop
 end_or_stop c u None = Err Grammar
 end_or_stop c u (Some e) =

@@ -23,7 +23,7 @@ Gives view (Err Grammar) read = read ≡ Err Grammar
 Gives view (Err (Counts said found)) read = read ≡ Err (Counts said found)
 Gives view (Err Memory) read = Unit {0}
 
--- the same of a reader's answer
+-- a reader's answer is what the grammar gives, unless memory ran out
 abbrev pub Tells : {X Y : Type 0} → (X → Y) → Result X CertStop → Result Y CertStop → Type 0
 Tells view (Ok x) read = read ≡ Ok (view x)
 Tells view (Err (Text line)) read = read ≡ Err (Text line)

@@ -121,7 +121,7 @@ abbrev pub HasTaken : List ℕ → Input → Type 0
 HasTaken bytes (InModel t) = IsInModel bytes t × (t.need ≡ Listed)
 HasTaken bytes (Behind opened) = IsBehind bytes opened
 
--- the same where the line '%%' of the model is the last one taken, or the model has ended before
+-- these bytes were taken, and the line '%%' of the model is the last one, or the model has ended before
 abbrev pub EndsIn : List ℕ → Input → Type 0
 EndsIn bytes (InModel t) = AtLine IsMark bytes t × (t.need ≡ Listed)
 EndsIn bytes (Behind opened) = IsBehind bytes opened

@@ -53,7 +53,7 @@ ends_by (Worse p) = 1
 ends_by Yes = 1
 ends_by Unsearched = 1
 
--- the same of lines
+-- how many splits the lines have, and how many of them end a box
 abbrev pub splits : List CertLine → ℕ
 splits [] = 0
 splits (SaysAim a ∷ ls) = splits ls

@@ -64,7 +64,7 @@ abbrev pub FailsFirst : ModelParts → List (List ℕ) → Option ℕ → Type 0
 FailsFirst m texts failed =
     ((line : ℕ) × IsAgainst texts line × (failed ≡ Some line)) ⊎ BreaksFirst m texts failed
 
--- the same where the model is valid; no line fails where it isn't
+-- the line that fails first where the model is valid; none where it isn't
 abbrev pub FailsIn : Result ModelParts (ℕ × ModelKind) → List (List ℕ) → Option ℕ → Type 0
 FailsIn (Ok m) texts failed = FailsFirst m texts failed
 FailsIn (Err bad) texts failed = failed ≡ None

@@ -50,7 +50,7 @@ fn ends_so(alloc: Global, row: &Row, step: usize) -> Result<bool, AllocError> {
 }
 
 /// The line of a reading is written before the next byte is read: where that write fails, all that comes after the
-/// reading's LF is still in the source. Where a read fails, the lines that had their LF are told before.
+/// reading's LF is still in the source. Where a read fails, the lines that had their LF are written before.
 #[test]
 fn faults_of_devices(rt: HostRuntime) -> Result<(), AllocError> {
     for (place, row) in rows().iter().enumerate() {
@@ -75,8 +75,8 @@ fn check_of_peak(read: u64, write: u64, taken: &'static [u8], status: Status) ->
     }
 }
 
-/// Five reads give the bytes and the sixth finds the end. Each is told where it fails, and no seventh is made. A write
-/// that fails leaves the bytes before it, the `finish` after them all, and nothing comes later.
+/// Five reads give the bytes and the sixth finds the end. Each is reported where it fails, and no seventh is made. A
+/// write that fails leaves the bytes before it, the `finish` after them all, and nothing comes later.
 #[test]
 fn each_call_fails(rt: HostRuntime) -> Result<(), AllocError> {
     let alloc = rt.alloc();

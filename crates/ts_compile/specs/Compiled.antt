@@ -41,7 +41,7 @@ GluesTerm p t =
     (xs : List ℤ) → length xs ≤ longest → AreCellValues xs →
     (k : ℕ) → 1 ≤ k → k ≤ length xs → Glued p xs k ≡ term_value t xs
 
--- the same of a term of a model, on the cells that it looks at, which the series has
+-- the automaton answers the value of a term of a model, on the cells that it looks at, which the series has
 abbrev pub AnswersOver : Body → ModelTerm → Type 0
 AnswersOver b t =
     (xs : List ℤ) → 1 ≤ length xs → length xs ≤ longest → LooksInside (length xs) t.window → AreCellValues xs →

@@ -6,7 +6,7 @@ use Rattle.ts_domain.specs.declared.way.Way.{Way}
 use Rattle.ts_domain.specs.Union.{InSome}
 use Rattle.ts_domain.specs.Values.{AreNext, IsRising, RangesFrom, WithinLimits}
 
--- the numbers behind those from `next` to `last`, which stand from a place on, are those of some ranges up to a limit
+-- the numbers after those from `next` to `last`, which stand from a place on, are those of some ranges up to a limit
 pub record HasBehind (values : List ℤ) (place : ℕ) (next last : ℤ) (rest : List Interval) (limit : ℤ) : Type 0 where
   pub rising : IsRising values
   pub here : (i : ℕ) × (pos (i + 1) ≡ pos place +ℤ ((last +ℤ pos 1) -ℤ next)) × (slice_get values i ≡ Some last)
@@ -15,7 +15,7 @@ pub record HasBehind (values : List ℤ) (place : ℕ) (next last : ℤ) (rest :
   pub each : (v : ℤ) → InSome rest v → v ≤ℤ limit → Contains values v
   pub only : (v : ℤ) → Contains values v → last <ℤ v → InSome rest v × (v ≤ℤ limit)
 
--- the same, unless there is no range
+-- there is no range, or the numbers after `last` are those of the ranges up to the limit
 abbrev pub AreBehind : List ℤ → ℕ → ℤ → ℤ → List Interval → ℤ → Type 0
 AreBehind values place next last rest limit = (rest ≡ []) ⊎ HasBehind values place next last rest limit
 

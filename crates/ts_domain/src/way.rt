@@ -9,7 +9,7 @@ ghost use Rattle.ts_domain.specs.Ways.{IsWay};
 use crate::interval::Interval;
 use crate::lookup::ended_below;
 
-/// The numbers from `next` to `last`, and behind them those of the ranges `rest` up to `limit`.
+/// The numbers from `next` to `last`, and after them those of the ranges `rest` up to `limit`.
 #[derive(Clone, Copy)]
 pub(crate) struct Way<'a> {
     pub(crate) next: i64,

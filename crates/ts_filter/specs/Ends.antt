@@ -1,4 +1,4 @@
--- What no number of a span does, told by the ends of the span.
+-- What no number of a span does, by the ends of the span.
 use Rattle.std.specs.Prelude.{Bool, not, ◌&&◌, ◌||◌}
 use Rattle.ts_base.specs.declared.ext.Ext.{Ext}
 use Rattle.ts_base.specs.declared.goal.Goal.{Goal}

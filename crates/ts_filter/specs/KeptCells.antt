@@ -48,15 +48,15 @@ pub record AreKept (requirements : List Require) (s : Spans) (b : Box) (kept : L
 abbrev pub unknown : ℕ → TermKept
 unknown cells = record { alive = false; cells = replicate cells below_all }
 
--- nothing is known of it any more
+-- nothing is known of a term any more
 abbrev pub forgotten : TermKept → TermKept
 forgotten t = record { alive = false; cells = map (λ limit. below_all) t.cells }
 
--- it is known too that the term is alive
+-- of a term it is known, too, that it is alive
 abbrev pub with_alive : TermKept → TermKept
 with_alive t = record { alive = true; cells = t.cells }
 
--- it is known too that cell k is spared up to the limit
+-- of a term it is known, too, that cell k is spared up to the limit
 abbrev pub with_spared : ℕ → ℤ → TermKept → TermKept
 with_spared k limit t = record { alive = t.alive; cells = set t.cells (k - 1) limit }
 
@@ -83,13 +83,13 @@ abbrev pub IsSparedAt : List Require → ℕ → Automata → Box → ℕ → �
 IsSparedAt requirements term a b k limit =
     (r : Removal) → IsCellValue r.value → r.value ≤ℤ limit → IsDropAt requirements term a b k r → ⊥
 
--- what is known of the term whose machine this is is so, told by its spans in the whole box
+-- what is known of the term whose machine this is is so, by its spans in the whole box
 pub record IsTermKept (requirements : List Require) (term : ℕ) (a : Automata) (b : Box) (t : TermKept) : Type 0 where
   pub alive : t.alive ≡ true → (k j : ℕ) → IsUsable a k b → IsRefuting requirements term (term_span a k b) j → ⊥
   pub spared : (i : ℕ) (limit : ℤ) → slice_get t.cells i ≡ Some limit →
       IsSparedAt requirements term a b (i + 1) limit
 
--- what is known of the term whose machine this is, if anything is, is so, told by its spans in the whole box
+-- what is known of the term whose machine this is, if anything is, is so, by its spans in the whole box
 abbrev pub IsKeptIfKnown : List Require → ℕ → Automata → Box → Option TermKept → Type 0
 IsKeptIfKnown requirements term a b None = Unit {0}
 IsKeptIfKnown requirements term a b (Some t) = IsTermKept requirements term a b t

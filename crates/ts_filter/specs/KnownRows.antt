@@ -66,7 +66,7 @@ pub record AreRowsOf (cells : Box) (t : KnownRows) : Type 0 where
 abbrev pub AreKnown : Box → KnownRows → Type 0
 AreKnown b t = AreRowsOf (looked_at t.machine.window b) t
 
--- of the same machine, and again rows of the box
+-- the machine is the one of before, and the rows are again those of the box
 pub record StillKnown (b : Box) (old new : KnownRows) : Type 0 where
   pub machine : new.machine ≡ old.machine
   pub known : AreKnown b new

@@ -18,7 +18,7 @@ WithParts s parts None = Excludes s.asked (fold span_hull s.span parts) → ⊥
 WithParts s parts (Some t) =
     (t.asked ≡ s.asked) × FindsAlike s.asked t.span (fold span_hull s.span parts) × IsSoFar t
 
--- it is the whole span, as far as the question finds, which doesn't have what is asked; none where that has it
+-- the whole span, as far as the question finds, which doesn't have what is asked; none where that has it
 abbrev pub IsWholeSpan : Question → Span → Option SoFar → Type 0
 IsWholeSpan asked s None = Excludes asked s → ⊥
 IsWholeSpan asked s (Some t) = FindsAlike asked t.span s × Excludes asked s

@@ -34,7 +34,7 @@ IsFirstRefuting requirements term s None = (j : ℕ) → IsRefuting requirements
 IsFirstRefuting requirements term s (Some j) =
     IsRefuting requirements term s j × ((i : ℕ) → IsRefuting requirements term s i → j ≤ i)
 
--- a drop by a requirement of the term whose machine this is, told by the span of the value in the whole box
+-- a drop by a requirement of the term whose machine this is, by the span of the value in the whole box
 pub record IsTermDrop (requirements : List Require) (term : ℕ) (a : Automata) (b : Box) (r : Removal) : Type 0 where
   pub usable : IsUsable a r.cell b
   pub many : 2 ≤ length (values_at r.cell b)

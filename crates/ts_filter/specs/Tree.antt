@@ -34,7 +34,7 @@ told_after (Leaf l) told = told_by l told
 told_after (Drop k v j t) told = told_after t told
 told_after (Fork k t lower upper) told = told_after upper (told_after lower told)
 
--- the line ends
+-- the line ends its box
 abbrev pub IsLeafLine : TreeLine → Type 0
 IsLeafLine (Split k t) = ⊥
 IsLeafLine (Remove k v j) = ⊥
@@ -43,7 +43,7 @@ IsLeafLine (Worse p) = Unit {0}
 IsLeafLine Yes = Unit {0}
 IsLeafLine Unsearched = Unit {0}
 
--- it is a tree for the box, each of whose lines keeps its rule
+-- a tree for the box, each of whose lines keeps its rule
 abbrev pub Fits : ModelParts → Spans → Head → ℕ → Box → Tree → Type 0
 Fits m s h told b (Leaf l) = IsLeafLine l × KeepsRule m s h told b l
 Fits m s h told b (Drop k v j t) = IsDrop m.requirements s k v j b × Fits m s h told (without k v b) t

@@ -1,7 +1,7 @@
 //! What excludes boxes of a model from the search, and when a certificate of that is accepted.
 //!
 //! The layer above may rely on this: `refutes` and `cuts` answer exactly whether no number of a span compares so with a
-//! bound, or counts for a bar. The calls on a machine and a box answer the same of the box's span at a cell, and name
+//! bound, or counts for a bar. The calls on a machine and a box answer this of the box's span at a cell, and name
 //! the first cell, the first drop and the value to keep; each makes the rows of a machine once, however many cells
 //! there are, and looks at no further pair of states once some number of a span does what is asked. `AllTables` answers
 //! the same questions for the machines of all terms, of a box that was brought before, and keeps the rows of hulls for

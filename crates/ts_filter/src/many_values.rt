@@ -80,7 +80,7 @@ pub(crate) fn split_places(
     )
 }
 
-/// The values of a domain at the places from `from` on, before `to`; zeros behind them.
+/// The values of a domain at the places from `from` on, before `to`; zeros after them.
 fn listed(values: &Domain, from: u64, to: u64) -> [i64; 64]
     requires order { from ≤ to }
     requires few { to ≤ from + 64 }

@@ -32,7 +32,7 @@ pub(crate) struct TermRequirements<'a> {
 }
 
 impl<'a> TermRequirements<'a> {
-    /// Those of the term among all; none where the term has none.
+    /// The requirements of a term among all; none where it has none.
     pub(crate) fn among(all: &'a [Require], term: u32) -> Option<TermRequirements<'a>>
         requires { length all.now < too_many }
         ensures { MatchOption result (position (λ r. nat_eq r.term term) all.now ≡ None)

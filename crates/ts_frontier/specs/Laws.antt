@@ -32,7 +32,7 @@ FewWait =
     (cells : Box) (ls : List TreeLine) (waiting : List Box) → IsBox cells → LeadTo (cells ∷ []) ls waiting →
     length waiting + length cells ≤ total_of cells + 1
 
--- the same of the lines of a certificate, whatever they are: those so far lead to the boxes of a stand, or one of them
+-- few boxes wait whatever the lines of a certificate are: those so far lead to the boxes of a stand, or one of them
 -- broke its rule and nothing waits
 abbrev pub FewWaitAfter : Type 0
 FewWaitAfter =

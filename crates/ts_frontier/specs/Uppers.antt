@@ -10,7 +10,7 @@ use Rattle.ts_frontier.specs.declared.frontier.Upper.{Upper}
 abbrev pub upper_side : List Box → Upper → Box
 upper_side boxes u = high_side u.cell u.above (get_or boxes u.mark [])
 
--- those of all entries, the newest entry first
+-- the upper sides that all entries stand for, that of the newest first
 unfoldable pub upper_sides : List Box → List Upper → List Box
 upper_sides boxes [] = []
 upper_sides boxes (u ∷ us) = upper_side boxes u ∷ upper_sides boxes us

@@ -97,7 +97,7 @@ open_in Away = Leaf F
 abbrev pub opened : Op → Bool → Glue → Glue → Glue
 opened o held c d = if held then With (Fold o) c d else d
 
--- the same after u
+-- what is held, where the state is held, and what may come to it, folded onto u
 abbrev pub then_opened : Op → Glue → Bool → Glue → Glue → Glue
 then_opened o u held c d = With (Fold o) (if held then With (Fold o) u c else u) d
 

@@ -43,7 +43,7 @@ is_held false (Leaf C) = true
 is_held true (Joined Sub (Leaf C) (Leaf E)) = true
 is_held wide f = false
 
--- it is `o R C`, of a wide automaton `o R sub C E`
+-- the expression is `o R C`, of a wide automaton `o R sub C E`
 abbrev pub gives_result : Bool → Op → Formula → Bool
 gives_result wide o (Joined (Fold p) (Leaf R) f) = is_same_op o p && is_held wide f
 gives_result wide o f = false

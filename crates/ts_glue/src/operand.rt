@@ -73,7 +73,7 @@ pub(crate) struct Side<V> {
 }
 
 impl Side<Ext> {
-    /// Those of a run.
+    /// The registers of a run.
     pub(crate) fn of_run(regs: Regs) -> Side<Ext>
         ensures { each result.c result.e result.d result.f result.r ≡ regs_of regs }
     {
@@ -88,7 +88,7 @@ impl Side<Ext> {
 }
 
 impl Side<Span> {
-    /// Those of all runs in a hull.
+    /// The registers of all runs in a hull.
     pub(crate) fn of_hull(hull: Hull) -> Side<Span>
         ensures { each result.c result.e result.d result.f result.r ≡ spans_of hull }
     {

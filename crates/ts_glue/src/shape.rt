@@ -45,7 +45,7 @@ pub struct Shapes {
 }
 
 impl Shapes {
-    /// Those of two automata and a glue table.
+    /// How two automata with a glue table are glued.
     pub(crate) fn of(forward: &Automaton, reverse: &Automaton, table: &GlueTable) -> Shapes
         ensures { AreShapes (pair forward.now reverse.now (table_view table.now)) result }
     {

@@ -1,6 +1,6 @@
 //! Rows that the call without memory makes, each from the row before it in the table of a box. The automata and boxes
-//! are those of `told`, where rows of these tables are told from outside: wide and narrow automata, cells with gaps and
-//! without, and numbers that sweeps don't take.
+//! are those of `told`, where rows of these tables are compared with values from outside: wide and narrow automata,
+//! cells with gaps and without, and numbers that sweeps don't take.
 
 ghost use Rattle.std.specs.Prelude.{◌≡◌, ◌≤◌, None, length};
 ghost use Rattle.ts_bound.specs.HullTables.{forward_table};

@@ -107,7 +107,8 @@ fn span(lo: i64, hi: i64) -> Option<Span>
     }
 }
 
-/// The same with a hull.
+/// A state and its hull, each register from a lower number to an upper one; none where a register holds no number, or
+/// there is no such state.
 #[tactic(auto, using(crate::proofs::Numbers::spans_stand))]
 fn standing_hull(automaton: &Automaton, state: u8, lower: Numbers, upper: Numbers) -> Option<HullAt>
     ensures { IfSome result (λ at. HullStands automaton.now (hull_standing at)) }

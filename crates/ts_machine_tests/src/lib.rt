@@ -1,6 +1,6 @@
 //! The tests of texts of automata, of hulls and spans of boxes, and of what they exclude.
 //!
-//! Why tests stand in crates of their own is told in `ts_pattern_tests`. Each module is named for what it tries, and
+//! `ts_pattern_tests` says why tests stand in crates of their own. Each module is named for what it tries, and
 //! each expected value comes from outside the program: from a definition worked out by hand, or by enumeration.
 #![tactic(auto)]
 

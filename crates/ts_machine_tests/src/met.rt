@@ -91,7 +91,7 @@ fn span_by_rows(
     }
 }
 
-/// The same, in lanes of the width of both automata.
+/// The span where two rows meet at a value, in lanes of the width of both automata.
 #[tactic(auto, using(ts_value_tests::proofs::Splits::split_is))]
 fn span_in_lanes<const N: usize>(
     alloc: Global,
@@ -139,7 +139,7 @@ fn span_at_end(alloc: Global, a: &Automaton, cells: &Boxed, i: u64) -> Result<Sp
     }
 }
 
-/// The same, in lanes of the automaton's width.
+/// The span at a value of the last cell, by finish spans, in lanes of the automaton's width.
 fn end_in_lanes<const N: usize>(
     alloc: Global,
     a: &Automaton,
@@ -158,7 +158,7 @@ fn end_in_lanes<const N: usize>(
     Ok(finish_at(a, &whole_row(a, cells.cell(n), &row), i as usize, n))
 }
 
-/// Whether both ways tell the same at all values of a cell.
+/// Whether both ways give the same spans at all values of a cell.
 fn is_same_at(alloc: Global, m: &Machine, cells: &Boxed, k: u32) -> Result<bool, Fail>
     requires split { IsSome (pair_of m.now) }
     requires cell { IsCell k cells.now }
@@ -195,7 +195,7 @@ fn first_other(alloc: Global, m: &Machine, cells: &Boxed) -> Result<Option<u32>,
     Ok(None)
 }
 
-/// Whether both ways tell the same at all cells under a term.
+/// Whether both ways give the same spans at all cells under a term.
 fn is_same_under(alloc: Global, term: &Term, cells: &Boxed) -> Result<bool, Fail>
     requires { 1 ≤ length cells.now.present }
 {
@@ -230,8 +230,8 @@ fn wrong_feature(
     Ok(None)
 }
 
-/// Whether both ways tell the same where the ranges of the pattern are counted, and under each aggregator with each
-/// other feature.
+/// Whether both ways give the same spans where the ranges of the pattern are counted, and under each aggregator with
+/// each other feature.
 fn is_same_of(alloc: Global, pattern: PatternId, cells: &Boxed) -> Result<bool, Fail>
     requires { 1 ≤ length cells.now.present }
 {

@@ -3,8 +3,8 @@
 //! the transducers of the catalogue on numbers, and reads the value of a term off the matches of its expression that no
 //! other match contains.
 //!
-//! A table is one text. A box is a term, behind a `|` the ends that stand for those that aren't kept, and its cells;
-//! behind a line `/` come lines about it. A line `%` stands between two boxes.
+//! A table is one text. A box is a term, after a `|` the ends that stand for those that aren't kept, and its cells;
+//! after a line `/` come lines about it. A line `%` stands between two boxes.
 //!
 //! | line | what it tells |
 //! |---|---|
@@ -585,7 +585,7 @@ fn shown<const N: usize>(told: Span, far: Span) -> Span {
     }
 }
 
-/// The span that is written behind a value.
+/// The span that is written after a value.
 fn told_of(written: &str, value: i64) -> Option<Span> {
     if word(written, 0).parse::<i64>().ok() == Some(value) {
         span(word(written, 1), Ext::Int(0))
@@ -723,7 +723,7 @@ fn values_are_told<const N: usize>(
     cell.size() == place as u64
 }
 
-/// Whether as many places are settled as is written behind the bound.
+/// Whether as many places are settled as is written after the bound.
 fn settled_is_told<const N: usize>(
     joints: &Joints,
     left: &RowView<'_, N>,

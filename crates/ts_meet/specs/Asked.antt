@@ -6,7 +6,7 @@ use Rattle.ts_sweep.specs.Packed.{IsPackOf}
 use Rattle.ts_base.specs.SpanLayer.{IsWithin}
 use Rattle.ts_meet.specs.Sides.{StandFor}
 
--- it is the whole span, which doesn't have what is asked; none where that has it
+-- the answer to a question: the whole span, which doesn't have what is asked; none where that has it
 abbrev pub IsAnswer : (Span → Type 0) → Span → Option Span → Type 0
 IsAnswer Excluded whole None = Excluded whole → ⊥
 IsAnswer Excluded whole (Some s) = (s ≡ whole) × Excluded whole

@@ -26,14 +26,14 @@ joined_expression g = join_of g.result (fold_of g.wide g.fold (part_by g))
 abbrev pub expression : Gluing → Glue
 expression g = if g.joins then joined_expression g else apart g.wide g.result
 
--- that of narrow automata where an occurrence goes on: one that leaves a cell out at its end, or keeps its last cell
+-- the expression of narrow automata where an occurrence goes on that leaves its last cell out, or keeps it
 abbrev pub between_expression : Gluing → Glue
 between_expression g = join_of g.result (folded_between g.fold Whole g.held_left g.held_right g.worth)
 
 abbrev pub both_expression : Gluing → Glue
 both_expression g = join_of g.result (folded_both g.fold Whole g.worth)
 
--- the one where an occurrence goes on, told part by part
+-- what is glued where an occurrence goes on, by the parts of the gluing
 abbrev pub told_joined : (o fold : Op) → ℤ → (wide trims held_left held_right : Bool) → Glue
 told_joined o fold worth wide trims held_left held_right =
     joined_expression (record {
@@ -47,7 +47,7 @@ told_joined o fold worth wide trims held_left held_right =
       held_right = held_right;
     })
 
--- the same where the cell has another worth
+-- a gluing where the cell has another worth
 abbrev pub with_worth : Gluing → ℤ → Gluing
 with_worth g d = record {
   result = g.result;

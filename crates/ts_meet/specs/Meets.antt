@@ -39,7 +39,7 @@ unfoldable pub spans_with : (n : ℕ) → Pair → Standing Span → List (List 
 spans_with n p left right i x cells m =
     map (λ r. glued_seen (sides n) p left (standing_in n right r i) x cells) (range_with_len 0 m)
 
--- those of the first k states, and of m on the other side
+-- the glued spans of the first k states and of m on the other side
 unfoldable pub spans_between :
     (n : ℕ) → Pair → (left right : List (List (PackedHull n))) → ℕ → ℤ → ℕ → ℕ → ℕ → List Span
 spans_between n p left right i x cells m k =
@@ -53,7 +53,7 @@ finishes_in n b row i cells k = map (λ q. finish_seen (sides n) b (standing_in 
 abbrev pub hull_of_spans : List Span → Span
 hull_of_spans ss = fold span_hull none_span ss
 
--- that of all glued spans, and of all finish spans
+-- the hull of all glued spans, and of all finish spans
 abbrev pub glued_hull : (n : ℕ) → Pair → (left right : List (List (PackedHull n))) → ℕ → ℤ → ℕ → Span
 glued_hull n p left right i x cells =
     hull_of_spans (spans_between n p left right i x cells (length p.reverse.states) (length p.forward.states))

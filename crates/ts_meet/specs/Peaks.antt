@@ -12,7 +12,7 @@ use Rattle.ts_meet.specs.declared.peaks.Peaks.{Peaks}
 use Rattle.ts_meet.specs.Joints.{is_add}
 use Rattle.ts_meet.specs.Sides.{side_of}
 
--- those of a column that isn't there
+-- the peaks of a column that isn't there
 abbrev pub no_peaks : Peaks
 no_peaks = record { c = pos 0; d = ends (pos 0) (pos 0); r = pos 0 }
 
@@ -31,14 +31,14 @@ AreBelow e top = (e.below ≤ℤ top.below) × (e.above ≤ℤ top.above)
 abbrev pub IsUnder : Peaks → EachOf Ends → Type 0
 IsUnder k a = IsBelow a.c k.c × AreBelow a.d k.d × IsBelow a.r k.r
 
--- so are the registers of a hull, if they lie in it; those of the hulls at so many places from one on
+-- the registers of a hull are under the peaks, if they lie in it; those of the hulls at so many places from one on
 abbrev pub IsHullUnder : (n : ℕ) → Peaks → PackedHull n → Type 0
 IsHullUnder n k h = some_lanes (lanes_of n h) ≡ true → IsUnder k (side_of (sides n) (lanes_of n h))
 
 abbrev pub AreAllUnder : (n : ℕ) → Peaks → List (PackedHull n) → (from count : ℕ) → Type 0
 AreAllUnder n k hulls from count = (i : ℕ) → i < count → IsHullUnder n k (get_or hulls (from + i) (nothing n))
 
--- so where the joints add anything
+-- the hulls at so many places are under the peaks where the joints add anything
 abbrev pub AreWatched : (n : ℕ) → Joints → Peaks → List (PackedHull n) → (from count : ℕ) → Type 0
 AreWatched n j k hulls from count =
     (is_add j.result || is_add j.fold) ≡ true → AreAllUnder n k hulls from count

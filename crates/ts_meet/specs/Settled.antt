@@ -22,7 +22,7 @@ ArePlaces n to hulls =
     (to ≤ length hulls)
     × ((i : ℕ) → i < to → IsPacked (lane_count n) (lanes_of n (get_or hulls i (nothing n))))
 
--- so in the column of each of so many states
+-- in the column of each of so many states there is a packed hull at each of the places before one
 pub record HavePlaces (n states to : ℕ) (row : List (List (PackedHull n))) : Type 0 where
   pub len : length row ≡ states
   pub places : (q : ℕ) → q < states → ArePlaces n to (get_or row q [])
@@ -38,13 +38,13 @@ with_hull_at n q hulls i = with_hull n q (get_or hulls i (nothing n))
 abbrev pub AlwaysReaches : Sides → Ends → Pair → (left right : Standing Span) → ℕ → Type 0
 AlwaysReaches s given p left right cells = (x : ℤ) → Reaches given (glued_seen s p left right x cells)
 
--- so does that of the states q and r at place i of two columns
+-- the span of the states q and r at place i of two columns always reaches these ends
 abbrev pub IsSettledBy :
     (n : ℕ) → Ends → Pair → (q r : ℕ) → (left right : List (PackedHull n)) → (cells i : ℕ) → Type 0
 IsSettledBy n given p q r left right cells i =
     AlwaysReaches (sides n) given p (with_hull_at n q left i) (with_hull_at n r right i) cells
 
--- so with one of the states on the right, and with one of those on both sides
+-- the span of q with some state on the right always reaches them; that of some state on the left with one on the right
 abbrev pub IsSettledBySome :
     (n : ℕ) → Ends → Pair → ℕ → List (PackedHull n) → List (List (PackedHull n)) → (cells i : ℕ) → Type 0
 IsSettledBySome n given p q left right cells i =

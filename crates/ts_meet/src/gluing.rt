@@ -67,7 +67,7 @@ impl Gluing {
         }
     }
 
-    /// The same, by operators and a width that are those of it: where these are constants, so are its parts.
+    /// This gluing, made of operators and a width equal to its own: where these are constants, so are its parts.
     #[inline(always)]
     pub(crate) fn known(self, operator: Op, fold: Op, wide: bool) -> Gluing
         requires operator { operator ≡ self.result }

@@ -28,7 +28,7 @@ pub(crate) struct Peaks {
 }
 
 impl Peaks {
-    /// Those of no hull.
+    /// The peaks of no hull.
     #[inline(always)]
     pub(crate) fn none() -> Peaks {
         Peaks {
@@ -38,7 +38,7 @@ impl Peaks {
         }
     }
 
-    /// Those of the hulls at `count` places from `from` on, where they are needed.
+    /// The peaks of the hulls at `count` places from `from` on, if they are needed, else those of no hull.
     pub(crate) fn of<const O: u8, const N: usize>(
         needed: bool,
         hulls: &[PackedHull<N>],
@@ -56,8 +56,8 @@ impl Peaks {
         }
     }
 
-    /// Those of the hulls at `count` places from `from` on. `O` is the number of the operator that joins results: the
-    /// ends of R are watched where it adds.
+    /// The peaks of the hulls at `count` places from `from` on. `O` is the number of the operator that joins results:
+    /// the ends of R are watched where it adds.
     #[inline(never)]
     fn over<const O: u8, const N: usize>(
         hulls: &[PackedHull<N>],
@@ -75,7 +75,7 @@ impl Peaks {
         all
     }
 
-    /// Those with the ends of one more hull, if registers lie in it.
+    /// The peaks with the ends of one more hull, if registers lie in it.
     #[inline(always)]
     fn with_hull<const O: u8, const N: usize>(self, h: &PackedHull<N>) -> Peaks
         requires registers { 6 ≤ lane_count N }
@@ -90,7 +90,7 @@ impl Peaks {
         self.with_side::<O>(Side::of(h))
     }
 
-    /// Those with the ends of one side more.
+    /// The peaks with the ends of one more side.
     #[inline(always)]
     fn with_side<const O: u8>(self, side: Side) -> Peaks
         ensures kept { (a : EachOf Ends) → IsUnder self a → IsUnder result a }
@@ -103,7 +103,7 @@ impl Peaks {
         }
     }
 
-    /// Registers of narrow automata that have these ends.
+    /// Registers of narrow automata, both ends of each at its peak.
     #[inline(always)]
     pub(crate) fn side(self) -> Side
         ensures { ends_in result ≡ sides_of_peaks self }
@@ -146,7 +146,7 @@ fn both(top: i64) -> Ends
     }
 }
 
-/// Those of each column of a row at `count` places from `from` on, where they are needed.
+/// The peaks of each column of a row at `count` places from `from` on, if they are needed, else those of no hull.
 pub(crate) fn peaks_of<const O: u8, const N: usize>(
     needed: bool,
     states: u8,

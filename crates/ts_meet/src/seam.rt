@@ -23,7 +23,7 @@ pub(crate) trait Seam<const N: usize>: Copy {
     /// That it serves states that are glued so.
     ghost fits: { Gluing → Type 0 };
 
-    /// That it serves registers that lie so on both sides.
+    /// That registers with these ends on both sides may be glued so.
     ghost takes: { Gluing → EachOf Ends → EachOf Ends → Type 0 };
 
     /// The glued ends before the mark. An end that the hulls haven't is infinite.
@@ -63,7 +63,7 @@ pub(crate) struct Between<const O: u8, const F: u8>;
 #[derive(Clone, Copy)]
 pub(crate) struct Both<const O: u8, const F: u8>;
 
-/// Any way, which is found anew for each value.
+/// Any way to glue, looked up again for each value.
 #[derive(Clone, Copy)]
 pub(crate) struct Any;
 

@@ -116,7 +116,7 @@ abbrev pub IsReading : Need → Cut → Result ModelParts (ℕ × ModelKind) →
 IsReading need c (Ok m) = IsModel need c m
 IsReading need c (Err e) = IsRefused need c e.0 e.1
 
--- The same reading as a function, from line to line.
+-- What a text reads as, by a function that goes from line to line.
 
 abbrev pub taken_as : Bool → ModelParts → Result Meaning ModelKind → Result ModelParts ModelKind
 taken_as lists m (Err k) = Err k
@@ -168,6 +168,6 @@ lines_reading need c = then_on (read_rows (needs_lists need) nothing c.rows) (un
 abbrev pub reading : Need → Cut → Result ModelParts (ℕ × ModelKind)
 reading need c = then_on (lines_reading need c) (ended_model need c.count)
 
--- the same of the bytes of a text
+-- what the bytes of a text read as
 abbrev pub model_reading : Need → List ℕ → Result ModelParts (ℕ × ModelKind)
 model_reading need bytes = reading need (cut_of bytes)

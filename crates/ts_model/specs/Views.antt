@@ -98,7 +98,7 @@ Reads (Ok m) read = read ≡ Ok (model_parts m)
 Reads (Err (Refused line kind)) read = read ≡ Err (line, kind)
 Reads (Err Memory) read = Unit {0}
 
--- the same of what is added to a draft, which then states this
+-- what is added to a draft makes it state this, or is a line with its kind, unless memory ran out
 abbrev pub Adds : ModelParts → Result (Unit {0}) ModelStop → Result ModelParts (ℕ × ModelKind) → Type 0
 Adds after (Ok _) read = read ≡ Ok after
 Adds after (Err (Refused line kind)) read = read ≡ Err (line, kind)

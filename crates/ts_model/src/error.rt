@@ -10,7 +10,7 @@ use std::alloc::{AllocError, AllocFailed};
 use thiserror::Error;
 use ts_base::Memory;
 
-/// What may be wrong with a line of a model text; of one line, the first kind that holds is told.
+/// What may be wrong with a line of a model text; of one line, the first kind that holds is reported.
 #[derive(Clone, Copy, Debug, PartialEq, Eq)]
 pub enum ModelKind {
     /// A byte is neither printable ASCII nor a tab.

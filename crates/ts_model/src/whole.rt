@@ -15,8 +15,9 @@ use std::alloc::Global;
 use ts_base::first_line;
 
 /// The model that a text of fewer than 4,000,000,000 bytes states, in the limits of the need, or its first bad line,
-/// counted from 1, with the first kind that holds of it; a missing `cells` line or objective is told at the number of
-/// the lines plus 1. What the text takes beside itself is what its lines so far state, and the ranges of one of them.
+/// counted from 1, with the first kind that holds of it; a missing `cells` line or objective is reported at the number
+/// of the lines plus 1. What the text takes beside itself is what its lines so far state, and the ranges of one of
+/// them.
 pub fn read_model(alloc: Global, text: &[u8], need: Need) -> Result<Model, ModelStop>
     requires { length text.now < too_many }
     ensures exact { Reads result (model_reading need text.now) }

@@ -12,7 +12,7 @@ use std::str::from_utf8;
 use ts_domain::Interval;
 use ts_token::{Word, is_word, number};
 
-/// The form of a line, told by its first word.
+/// The form of a line, by its first word.
 #[derive(Clone, Copy)]
 pub(crate) enum Form {
     Cells,

@@ -103,7 +103,7 @@ fn seed_holds(alloc: Global, id: PatternId, row: &[u8]) -> Result<bool, Memory> 
     )
 }
 
-/// Whether the calls that tell a part of the seed tell the same.
+/// Whether the calls that give a part of the seed give that part of the table.
 fn parts_hold(alloc: Global, id: PatternId, row: &[u8]) -> Result<bool, Memory> {
     let joins = joins_by_id(alloc, id)?;
     Ok(

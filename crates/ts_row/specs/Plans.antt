@@ -67,7 +67,7 @@ twice_by o w = Join o (Join o (Leaf D) w) w
 abbrev pub twice : CellFold → Formula
 twice f = twice_by (Fold (cell_op f)) (cell_word f)
 
--- the same of a fold of ranges
+-- the operator of a fold of ranges
 abbrev pub range_op : RangeFold → Op
 range_op Sum = Add
 range_op Highest = Max
@@ -91,7 +91,7 @@ least e = Join (Fold Min) e (Leaf This)
 
 -- nothing changes; D goes on; D begins anew; C becomes of D and a word, and D begins anew; C becomes of C, D and a
 -- word, and D begins anew; R becomes of R and of what was found, and D begins anew; R becomes of R and what is held,
--- and both begin anew. The same becomes of E and F, which a narrow automaton hasn't.
+-- and both begin anew. E changes as C does and F as D does, by the lesser; a narrow automaton has neither.
 abbrev pub kept_fronts : Cut
 kept_fronts = fronts (Leaf C) (Leaf E) (Leaf D) (Leaf F) (Leaf R)
 

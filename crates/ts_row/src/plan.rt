@@ -607,7 +607,8 @@ fn wide_ended_by(o: Op, taken: &Expr, d: &Expr, equal: bool) -> Option<Shape>
     }
 }
 
-/// The shape of such a move by its expressions of D and R.
+/// The shape of a move that joins R with what is found of D and the worth of two cells less the least, by its
+/// expressions of D and R.
 fn wide_ended_of(d: &Expr, r: &Expr, equal: bool) -> Option<Shape>
     ensures { IfSome result (λ s. IsShapeOf true s (fronts (Leaf C) (Leaf E) (read equal d.now) (Leaf HighAtom)
         (read equal r.now))) }

@@ -1,4 +1,4 @@
--- Which line of readings is the first bad one, told of all lines at once; `watch` reads them one by one (`Watch`).
+-- Which line of readings is the first bad one, stated of all lines at once; `watch` reads them one by one (`Watch`).
 use Rattle.std.specs.Prelude.{ℕ, ◌≡◌, ◌≤◌, ◌<◌, ◌+◌, ◌↔◌, ℤ, List, [], length, take, Option, Some, None, slice_get, unwrap_or}
 use Rattle.std.specs.List.{flat_map}
 use Rattle.ts_decorate.specs.Answers.{longest}

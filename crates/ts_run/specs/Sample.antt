@@ -39,7 +39,7 @@ six_lines n value sum lines = record { text = sample_text n value sum lines ++ c
 abbrev pub three_lines : ℕ → Reply
 three_lines n = record { text = head_lines n ++ codes "budget\n"; status = Budget }
 
--- what is told of a claim: the model has a series that meets, so there is no other
+-- what is reported of a claim: the model has a series that meets, so there is no other
 abbrev pub IsTold : ℕ → Claim → List (List ℤ) → List TreeLine → Reply → Type 0
 IsTold n (Best v) series tree r = (x : List ℤ) × (series ≡ x ∷ []) × (r ≡ six_lines n v (sum_of x) (checked_count tree))
 IsTold n Infeasible series tree r = ⊥

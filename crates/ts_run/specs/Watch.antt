@@ -120,7 +120,7 @@ end_due (Some number) = Some Refused
 abbrev pub values_due : ModelParts → Readings → Due
 values_due m r = record { text = values_lines m [] r.values ++ refusal_due r.bad; ended = end_due r.bad }
 
--- the same of a text of whole lines, and of any bytes after a model
+-- what is owed after a text of whole lines, and after any bytes, that follow a model
 abbrev pub lines_due : ModelParts → List ℕ → Due
 lines_due m text = values_due m (readings_of text)
 

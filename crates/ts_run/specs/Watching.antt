@@ -93,7 +93,7 @@ ReadsLine old before after ended new =
     (m : ModelParts) (text line : List ℕ) (values : List ℤ) → AreEnded text → IsLine line → IsShort line old.line →
     HasTaken m text values old → EndsLine m (text ++ line) values before after ended new
 
--- the model in front was read, each of its terms looks at all cells, and readings came behind it
+-- the model was read, each of its terms looks at all cells, and readings came after it
 pub record IsBehindModel (bytes : List ℕ) (r : ReadingsText) : Type 0 where
   pub text : List ℕ
   pub front : List ℕ
@@ -111,7 +111,7 @@ abbrev pub HasCome : List ℕ → Stage → Type 0
 HasCome bytes (InModel t) = IsInModel bytes t × (t.need ≡ Values)
 HasCome bytes (InReadings r) = IsBehindModel bytes r
 
--- the same where the line `%%` of the model is the last of them
+-- these bytes have come, and the line `%%` of the model is the last one
 abbrev pub EndsIn : List ℕ → Stage → Type 0
 EndsIn bytes (InModel t) = AtLine IsMark bytes t × (t.need ≡ Values)
 EndsIn bytes (InReadings r) = ⊥

@@ -22,12 +22,12 @@ drop_of m s b k v =
     option_map (λ j. record { cell = k; value = v; require = j })
     (least (λ j. is_drop m.requirements s k v j b) (length m.requirements) 1)
 
--- that of the least of these values, which rise
+-- the possible drop of the least of these values, which rise
 abbrev pub drop_at : ModelParts → Spans → Box → ℕ → List ℤ → Option Removal
 drop_at m s b k [] = None
 drop_at m s b k (v ∷ values) = or_later (drop_of m s b k v) (drop_at m s b k values)
 
--- that of the least of so many cells from k on
+-- the possible drop in the least of so many cells from k on
 abbrev pub drop_from : ModelParts → Spans → Box → ℕ → ℕ → Option Removal
 drop_from m s b zero k = None
 drop_from m s b (suc n) k = or_later (drop_at m s b k (values_at k b)) (drop_from m s b n (suc k))

@@ -32,7 +32,7 @@ SearchSolves =
     IsSolution m s goal n (solve_certificate (contest_for m s goal)
     (turns (contest_for m s goal) n (start (contest_for m s goal))))
 
--- and that of a listing is listed
+-- the certificate of a listing is listed
 abbrev pub SearchLists : Type 0
 SearchLists =
     (m : ModelParts) (s : Spans) (count n : ℕ) → AreRight m s →
@@ -96,7 +96,7 @@ pub record IsMostPromising (s : Spans) (goal : Goal) (term k : ℕ) (b : Box) (v
   pub there : Contains (values_at k b) v
   pub over : (u : ℤ) → Contains (values_at k b) u → IsPreferred goal (promise s goal term k b) v u
 
--- so is the value that a cell keeps, where the objective is reversible
+-- the value that a cell keeps is most promising, where the objective is reversible
 abbrev pub KeptFits : Type 0
 KeptFits =
     (m : ModelParts) (s : Spans) (goal : Goal) (term k : ℕ) (b : Box) → IsBox b → HasCell k b →

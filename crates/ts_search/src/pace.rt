@@ -20,7 +20,8 @@ use ts_frontier::first_halving;
 /// A leap goes down so many boxes at most.
 const FARTHEST: u32 = 64;
 
-/// And so many fewer than splits came one after the other: where few do, leaps cost more than they spare.
+/// A leap goes down so many boxes fewer than splits came one after the other: where few do, it costs more than it
+/// spares.
 const FEWER: u32 = 4;
 
 /// Whether leaps may be made, how many lines to come are known to be splits, and how many splits came one after the

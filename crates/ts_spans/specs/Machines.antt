@@ -23,7 +23,7 @@ automata_for t = record {
   window = t.window;
 }
 
--- those of a model's terms, in the order of the text
+-- the automata of a model's terms, in the order of the text
 abbrev pub automata_in : ModelParts → List Automata
 automata_in m = map (λ t. automata_for t.1) m.terms
 

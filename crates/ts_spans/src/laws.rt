@@ -7,7 +7,7 @@ pub fn spans_hold_values()
     ensures { SpansHoldValues }
 {}
 
-/// On the box of one series they are at the last cell its values alone.
+/// On the box of one series the spans of a model's terms are at the last cell its values alone.
 pub fn spans_tell_singles()
     ensures { SpansTellSingles }
 {}
@@ -17,7 +17,7 @@ pub fn machines_are_in()
     ensures { MachinesAreIn }
 {}
 
-/// Each of these machines answers the value of its term on every series of the model's box.
+/// Each machine of a model's program answers the value of its term on every series of the model's box.
 pub fn machines_answer()
     ensures { MachinesAnswer }
 {}

@@ -18,13 +18,13 @@ part_front (Front e) = formula e.now
 part_front (Tail o e) = formula e.now
 part_front (Double o e f) = Join (Fold o) (formula e.now) (formula f.now)
 
--- how it is split
+-- how a part is split
 abbrev pub part_split : AnyPart → Split
 part_split (Front e) = FrontOf (formula e.now)
 part_split (Tail o e) = TailOf o (formula e.now)
 part_split (Double o e f) = TailOf o (Join (Fold o) (formula e.now) (formula f.now))
 
--- and where there may be no such part
+-- how an expression is split, which may be no such part
 abbrev pub split_by : Option AnyPart → Split
 split_by None = ByPairs
 split_by (Some k) = part_split k

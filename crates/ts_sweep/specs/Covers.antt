@@ -23,11 +23,11 @@ cover_ends c R = c.r
 abbrev pub IsBounded : Cover → List ℤ → Type 0
 IsBounded cover xs = (k : Name) → ArePlain (cover_ends cover k) → AreWithin 1 (name_ends xs k)
 
--- so those of a hull in which registers lie, as they are read
+-- the ends of a hull in which registers lie are bounded so, as they are read
 abbrev pub IsHullBounded : Sides → Cover → List ℤ → Type 0
 IsHullBounded s cover xs = some_lanes xs ≡ true → IsBounded cover (as_read s xs)
 
--- and of each of so many hulls
+-- one cover bounds the ends of each of so many hulls
 abbrev pub IsCoverOf : {X : Type 0} → Sides → (X → List ℤ) → X → Cover → ℕ → List X → Type 0
 IsCoverOf s lanes none cover count hulls =
     (i : ℕ) → i < count → IsHullBounded s cover (lanes (get_or hulls i none))

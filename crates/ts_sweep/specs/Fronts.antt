@@ -51,7 +51,7 @@ abbrev pub Serves : Sides → Operator → Type 0
 Serves s (Fold o) = Unit {0}
 Serves s Sub = s ≡ BothEnds
 
--- so it is of an expression; one alone is kept of narrow ones
+-- each kept end that an expression makes depends on that end of its operands alone: one end is kept of narrow ones
 abbrev pub IsFor : Sides → Formula → Type 0
 IsFor BothEnds f = Unit {0}
 IsFor UpperEnds f = is_narrow f ≡ true

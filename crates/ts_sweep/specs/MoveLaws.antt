@@ -101,7 +101,7 @@ all_some n xs e big h s =
     (with_some n _ (place n E) (e E) (placed n E big) (with_some n xs (place n C) (e C) (placed n C big) h (s C)) (s E))
     (s D)) (s F)) (s R)
 
--- the same by the width
+-- lanes with other ends of all registers, whose places go by the width
 abbrev all_in : Bool → List ℤ → (Name → Ends) → List ℤ
 all_in wide xs e =
     with_ends_in
@@ -452,7 +452,7 @@ by_names P c e d f r R = r
 abbrev pub begun_by : Bool → (Name → List ℤ → Ends) → List ℤ → Name → Ends
 begun_by wide front xs = ends_by wide (front C xs) (front E xs) (front D xs) (front F xs) (front R xs)
 
--- and of the ends of registers
+-- the ends of all registers, by what is made of the ends of each
 abbrev pub closed_by : ℕ → (Name → Ends → Ends) → List ℤ → Name → Ends
 closed_by n close xs =
     ends_by (is_wide n) (close C (ends_in xs (place n C))) (close E (ends_in xs (place n E)))

@@ -27,7 +27,7 @@ rest_split wide p = if wide then p else FrontOf (Leaf AtomZero)
 abbrev pub of_width : Bool → Cut → Cut
 of_width wide k = each k.c (rest_split wide k.e) k.d (rest_split wide k.f) k.r
 
--- those of a move that keeps all registers
+-- the split expressions of a move that keeps all registers
 abbrev pub kept_cut : Bool → Cut
 kept_cut wide =
     of_width wide
@@ -38,7 +38,7 @@ kept_cut wide =
 abbrev pub IsFrontOf : Sides → Cut → ℕ → List ℤ → ℤ → List ℤ → Type 0
 IsFrontOf s k n xs v ys = IsPacked n ys × (unpacked ys ≡ seen_hull s (front_hull k (unpacked xs) v))
 
--- and for what the next value makes of it
+-- lanes ys stand for what is seen of what the next value makes of the hull in lanes xs
 abbrev pub IsClosingOf : Sides → Cut → ℕ → List ℤ → ℤ → List ℤ → Type 0
 IsClosingOf s k n xs w ys = IsPacked n ys × (unpacked ys ≡ seen_hull s (closed_hull k (unpacked xs) w))
 
@@ -47,7 +47,7 @@ abbrev pub replaced_all : {X : Type 0} → (X → Name → Ends → X) → X →
 replaced_all replaced h e =
     replaced (replaced (replaced (replaced (replaced h C (e C)) E (e E)) D (e D)) F (e F)) R (e R)
 
--- the same of n lanes
+-- n lanes with other ends of all registers
 abbrev pub with_all : ℕ → List ℤ → (Name → Ends) → List ℤ
 with_all n xs e =
     with_ends_in
@@ -84,7 +84,7 @@ closings_by c e d f r D = d
 closings_by c e d f r F = f
 closings_by c e d f r R = r
 
--- and what five parts ask of them
+-- what five parts ask of lanes, by the register of each
 abbrev pub fits_by : (List ℤ → Type 0) → (List ℤ → Type 0) → (List ℤ → Type 0) → (List ℤ → Type 0) → (List ℤ → Type 0) →
     Name → List ℤ → Type 0
 fits_by c e d f r C = c

@@ -44,7 +44,7 @@ ends_at xs p = ends (get_or xs (2 * p) (pos 0)) (get_or xs (2 * p + 1) (pos 0))
 abbrev pub register_span : List ℤ → ℕ → Span
 register_span xs p = ends_span (ends_at xs p)
 
--- the same lanes with other ends at a place
+-- lanes with other ends at a place
 abbrev pub with_ends_at : List ℤ → ℕ → Ends → List ℤ
 with_ends_at xs p e = set (set xs (2 * p) e.below) (2 * p + 1) e.above
 
@@ -64,7 +64,7 @@ place_in wide R = Some (cond wide 4 2)
 abbrev pub place : ℕ → Name → Option ℕ
 place n name = place_in (is_wide n) name
 
--- the ends of a register by its place, which holds 0 if it has none, and the same lanes with other ends of it
+-- the ends of a register by its place, those of 0 if it has none, and lanes with other ends of it
 abbrev pub ends_in : List ℤ → Option ℕ → Ends
 ends_in xs None = number_ends (pos 0)
 ends_in xs (Some p) = ends_at xs p

@@ -39,7 +39,7 @@ lanes_by BothEnds xs = xs
 lanes_by UpperEnds xs = upper_lanes xs
 lanes_by LowerEnds xs = lower_lanes xs
 
--- and how many
+-- the number of lanes with both ends, from the number of those that there are
 abbrev pub count_by : Sides → ℕ → ℕ
 count_by BothEnds n = n
 count_by UpperEnds n = n + n
@@ -92,7 +92,7 @@ seen BothEnds t = t
 seen UpperEnds t = if has_some t then span_from NegInf t.hi else none_span
 seen LowerEnds t = if has_some t then span_from t.lo PosInf else none_span
 
--- and of a hull: E and F are seen, since they are 0 in a hull of one end alone
+-- what is seen of a hull: E and F whole, since they are 0 in a hull of one end alone
 abbrev pub seen_hull : Sides → Hull → Hull
 seen_hull s h = hull_with (seen s h.c) h.e (seen s h.d) h.f (seen s h.r)
 

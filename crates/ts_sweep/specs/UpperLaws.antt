@@ -68,7 +68,7 @@ upper_mono x y h = elim (low_or_not x) [
   ]
 ]
 
--- the same of lower ends
+-- of two ends the greater has the lesser negative: so lower ends are kept as upper ones
 pub negated_mono : (a b : Ext) → ext_le a b ≡ true → ext_le (negated b) (negated a) ≡ true
 negated_mono NegInf b h = top_of (negated b)
 negated_mono (Int x) NegInf h = cc

@@ -224,7 +224,7 @@ fn is_begun<H: Packed>(h: H, greatest: bool) -> bool
         || h.ends(Name::D) == H::read(start_ends(greatest)) && h.ends(Name::F) == open_ends::<H>()
 }
 
-/// Whether it is so of others and of a hull.
+/// Whether `others` holds, and D and F hold no cell yet in a hull.
 #[inline(always)]
 fn with_begun<H: Packed>(others: bool, h: H, greatest: bool) -> bool
     requires registers { 6 ≤ H.count }

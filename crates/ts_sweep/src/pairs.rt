@@ -89,7 +89,7 @@ fn reach_of(letter: Letter, twin: bool, w: i64) -> Reach
     }
 }
 
-/// The values from one to another.
+/// The reach from one value to another.
 #[inline(always)]
 fn bounds(low: i64, high: i64) -> Reach
     ensures { result ≡ bounds low high }
@@ -97,7 +97,7 @@ fn bounds(low: i64, high: i64) -> Reach
     Reach { low, high }
 }
 
-/// Whether a value is one of them.
+/// Whether a value lies within a reach.
 #[inline(always)]
 fn reaches(reach: Reach, v: i64) -> bool
     ensures { result ≡ reaches reach v }

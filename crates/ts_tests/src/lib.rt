@@ -2,7 +2,7 @@
 //! certificates, as far as no command prints what is tried, and each public call once; and of `ts_run`'s public calls
 //! other than `run`. What commands print is in the tables of `examples/rows`.
 //!
-//! Why tests stand in crates of their own is told in `ts_pattern_tests`. Each module is named for what it tries, and
+//! `ts_pattern_tests` says why tests stand in crates of their own. Each module is named for what it tries, and
 //! each expected value comes from outside the program: from a definition worked out by hand, or by enumeration.
 #![tactic(auto)]
 

@@ -14,7 +14,7 @@ heads ws = map (λ w. take most_kept w.text) ws
 abbrev pub gist : List ℕ → Option (List (List ℕ))
 gist line = if is_text line then Some (if is_skipped (words_of line) then [] else heads (words_of line)) else None
 
--- the same of all lines of a text
+-- the gist of each line of a text
 abbrev pub gists : List ℕ → List (Option (List (List ℕ)))
 gists text = map gist (lines_of text)
 

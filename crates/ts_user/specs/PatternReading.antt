@@ -112,7 +112,7 @@ abbrev pub IsReading : Cut → Result Described (ℕ × UserKind) → Type 0
 IsReading c (Ok d) = IsPattern c d
 IsReading c (Err e) = IsRefused c e.0 e.1
 
--- The same reading as a function, from line to line.
+-- What a text reads as, by a function that goes from line to line.
 
 abbrev pub taken_as : Bool → Stated → Result Meaning UserKind → Result Stated UserKind
 taken_as alone m (Err k) = Err k
@@ -149,6 +149,6 @@ end_reading c (Ok m) = ended_text c m c.not_text
 abbrev pub pattern_in : Cut → Result Described (ℕ × UserKind)
 pattern_in c = end_reading c (read_rows (is_alone c) nothing c.rows)
 
--- the same of the bytes of a text
+-- what the bytes of a text read as
 abbrev pub pattern_reading : List ℕ → Result Described (ℕ × UserKind)
 pattern_reading bytes = pattern_in (cut_of bytes)

@@ -17,6 +17,6 @@ short_length (Star r) = 0
 abbrev pub has_short_word : Shape → ℕ → ℕ → Bool
 has_short_word p b a = nat_lt (short_length p) (max 1 (b + a))
 
--- the same, said of the words
+-- a word has fewer letters than both trims together take, or none
 abbrev pub HasShortWord : Shape → ℕ → ℕ → Type 0
 HasShortWord p b a = (w : List Letter) × InLanguage p w × ((length w < b + a) ⊎ (w ≡ []))

@@ -63,7 +63,7 @@ Reads (Ok u) read = read ≡ Ok (described_of u)
 Reads (Err (Refused line kind)) read = read ≡ Err (line, kind)
 Reads (Err Memory) read = Unit {0}
 
--- the same of a draft
+-- a draft, or a line with its kind, unless memory ran out
 abbrev pub Drafts : Result Draft UserStop → Result Stated (ℕ × UserKind) → Type 0
 Drafts (Ok d) read = read ≡ Ok (stated_of d)
 Drafts (Err (Refused line kind)) read = read ≡ Err (line, kind)

@@ -33,7 +33,7 @@ pub enum Next {
     Number(u32),
 }
 
-/// The same for each letter.
+/// What is known of the residual after each letter.
 #[derive(Clone, Copy)]
 pub struct Nexts {
     pub less: Next,
@@ -176,7 +176,7 @@ impl Book {
         }
     }
 
-    /// The same where it wasn't asked yet.
+    /// The number of the residual after a letter that wasn't asked for yet; none where no word is left.
     fn read(
         &mut self,
         alloc: Global,

@@ -1,4 +1,4 @@
-//! Whether a word is an expression, told from its outline alone, so that no part of a long word is kept.
+//! Whether a word is an expression, judged by its outline alone, so that no part of a long word is kept.
 
 ghost use Rattle.std.specs.Prelude.{◌≡◌, ◌+◌, ◌<◌, ◌≤◌, is_some, IfSome};
 ghost use Rattle.ts_user.specs.FromTheEnd.{expression_of, symbol_of};

@@ -58,8 +58,8 @@ fn read_line(draft: &mut Draft, alloc: Global, line: &[u8]) -> Result<(), LineSt
 }
 
 /// The pattern that a text of fewer than 4,000,000,000 bytes states, with its transducer; or its first bad line,
-/// counted from 1, with the first kind that holds of it, what the whole text lacks being told at the number of its
-/// lines plus 1; or lack of memory. It takes no memory for a line that was read but for what the line states.
+/// counted from 1, with the first kind that holds of it, what the whole text lacks being reported at the number of
+/// its lines plus 1; or lack of memory. It takes no memory for a line that was read but for what the line states.
 pub fn read_pattern_text(alloc: Global, text: &[u8]) -> Result<UserPattern, UserStop>
     requires { length text.now < too_many }
     ensures exact { Reads result (pattern_reading text.now) }

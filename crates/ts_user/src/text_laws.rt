@@ -20,7 +20,7 @@ pub fn one_expression()
     ensures { (word : List ℕ) (r s : Shape) → Means Whole word r → Means Whole word s → r ≡ s }
 {}
 
-/// Whether there is a short word is told exactly, for trims in their ranges.
+/// Whether there is a short word is answered exactly, for trims in their ranges.
 pub fn short_words_are_found()
     ensures { (p : Shape) (b a : ℕ) → b ≤ 2 → a ≤ 1 → (has_short_word p b a ≡ true) ↔ HasShortWord p b a }
 {}

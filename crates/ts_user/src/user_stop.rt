@@ -8,9 +8,9 @@ use std::alloc::AllocFailed;
 use thiserror::Error;
 use ts_base::Memory;
 
-/// What may be wrong with a pattern text. Of its first bad line the first kind that holds is told; "before" means by
-/// the lines before it. `Missing`, `ShortWord` and `Typing` are looked at in a text without a bad line, and told at the
-/// number of its lines plus 1. A line without words, or whose first word begins with `#`, is skipped.
+/// What may be wrong with a pattern text. Of its first bad line the first kind that holds is reported; "before" means
+/// by the lines before it. `Missing`, `ShortWord` and `Typing` are looked at in a text without a bad line, and reported
+/// at the number of its lines plus 1. A line without words, or whose first word begins with `#`, is skipped.
 #[derive(Clone, Copy, Debug, PartialEq, Eq)]
 pub enum UserKind {
     /// A byte of the line is neither printable ASCII nor a tab.

@@ -9,7 +9,7 @@ use ts_base::{Kind, Letter};
 use ts_token::{Word, is_word, number};
 use ts_transducer::Phase;
 
-/// The form of a line, told by its first word.
+/// The form of a line, by its first word.
 #[derive(Clone, Copy)]
 pub(crate) enum Form {
     Catalogue,

@@ -7,7 +7,8 @@ pub fn met_is_alive()
     ensures { MetIsAlive }
 {}
 
-/// Where such a series with the value v at cell k meets a requirement, v isn't dropped by it there.
+/// Where a series of the box, with the value v at cell k in place of its own, meets a requirement, v isn't dropped by
+/// it there.
 pub fn changed_is_kept()
     ensures { ChangedIsKept }
 {}

@@ -20,7 +20,7 @@ pub(crate) fn reads_letters(a: &Automaton) -> bool
     true
 }
 
-/// So the moves of a state.
+/// Whether the value of no cell stands in an expression of a state.
 fn node_reads_letters(state: &State) -> bool
     ensures { result ≡ node_reads_letters (node_of state.now) }
 {
@@ -29,7 +29,7 @@ fn node_reads_letters(state: &State) -> bool
         && turn_reads_letters(&state.greater)
 }
 
-/// So a move.
+/// Whether the value of no cell stands in an expression of a move.
 fn turn_reads_letters(turn: &Turn) -> bool
     ensures { result ≡ reads_letters (move_of turn.now) }
 {

@@ -116,7 +116,7 @@ fn value_bound_holds(
     Ok(true)
 }
 
-/// The same for each of the bounds.
+/// Whether the requirements of each bound are answered as its span has it, where the cell has one value alone.
 pub(super) fn value_holds(
     alloc: Global,
     m: &Machine,

@@ -67,7 +67,7 @@ static PLANS: [Small; 12] = [
         configurations: "0 01l",
         refused: Some((0, Greater, "")),
     },
-    // The same, though the match of a later start can't.
+    // What is found at once may still grow, though the match of a later start can't.
     Small {
         pattern: "=>>*..>|",
         b: 0,

@@ -139,7 +139,7 @@ static PLANS: [Small; 12] = [
         configurations: "0 11c 20c1l 11c0l",
         refused: Some((1, Greater, ">")),
     },
-    // The same, and the sign is no match's.
+    // A match ends, but not one of the first start, and the sign is no match's.
     Small {
         pattern: ">>.*>.",
         b: 0,
