@@ -27,3 +27,7 @@ pub mod SmallLanes
 pub mod Unpacked
 pub mod PairSteps
 pub mod PairLaws
+pub mod SpreadLanes
+pub mod SpreadSteps
+pub mod SpreadWalks
+pub mod SpreadMoves

@@ -26,3 +26,5 @@ pub mod StridedLaws
 pub mod Columns
 pub mod AnyParts
 pub mod AnyPartLaws
+pub mod Spreads
+pub mod SpreadLaws

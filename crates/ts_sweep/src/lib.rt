@@ -42,6 +42,7 @@ pub mod row;
 pub mod runs;
 mod small;
 pub mod source;
+pub mod spread;
 mod steps;
 pub mod strided;
 pub mod sweep;

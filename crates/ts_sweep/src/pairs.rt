@@ -76,7 +76,7 @@ pub(crate) struct Reach {
 
 /// The values that compare with the next one as a letter says, or are equal to it where there is a twin.
 #[inline(always)]
-fn reach_of(letter: Letter, twin: bool, w: i64) -> Reach
+pub(crate) fn reach_of(letter: Letter, twin: bool, w: i64) -> Reach
     requires { IsSmall w }
     ensures { result ≡ reach_by letter twin w }
 {
@@ -99,7 +99,7 @@ fn bounds(low: i64, high: i64) -> Reach
 
 /// Whether a value lies within a reach.
 #[inline(always)]
-fn reaches(reach: Reach, v: i64) -> bool
+pub(crate) fn reaches(reach: Reach, v: i64) -> bool
     ensures { result ≡ reaches reach v }
 {
     reach.low <= v && v <= reach.high

@@ -29,7 +29,7 @@ fn ahead<const UP: bool>(values: Run, next_values: Run) -> i64
 
 /// The value after the last one of a cell.
 #[inline(always)]
-fn end_of(values: Run) -> i64
+pub(crate) fn end_of(values: Run) -> i64
     requires first { IsCell values.first }
     requires few { values.count ≤ 2000001 }
     ensures { result ≡ values.first +ℤ pos values.count }
