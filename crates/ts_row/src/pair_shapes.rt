@@ -1,19 +1,21 @@
 //! Moves over pairs of values whose operators are known, so that the compiler makes a loop for each.
 
-ghost use Rattle.std.specs.Prelude.{◌≡◌, IfSome, ℤ, List, false, true};
-ghost use Rattle.ts_automaton.specs.Body.{move_of};
+ghost use Rattle.std.specs.Prelude.{◌≡◌, ◌<◌, IfSome, ℕ, ℤ, List, false, get_or, true};
+ghost use Rattle.ts_automaton.specs.Body.{Move, move_of};
 ghost use Rattle.ts_automaton.specs.Registers.{rests};
 ghost use Rattle.ts_automaton.specs.declared.expr.Atom.TheVariants.{C, Next, R, This};
 ghost use Rattle.ts_automaton.specs.declared.expr.Operator.TheVariants.{Fold};
 ghost use Rattle.ts_automaton.specs.Formula.{Join, Leaf, formula, is_zero};
 ghost use Rattle.ts_base.specs.declared.op.Op.TheVariants.{Add};
-ghost use Rattle.ts_row.specs.Rows.{IsColumn};
+ghost use Rattle.ts_row.specs.Rows.{IsColumn, lanes_of, nothing};
 ghost use Rattle.ts_row.specs.Takings.{AreEmitted, HasMoved, IsCovered, count_in};
 ghost use Rattle.ts_sweep.specs.declared.packed.Name.TheVariants.{R as NameR};
 ghost use Rattle.ts_sweep.specs.Covers.{IsBounded};
 ghost use Rattle.ts_sweep.specs.Fronts.{IsMoveFor};
+ghost use Rattle.ts_sweep.specs.Lanes.{some_lanes};
 ghost use Rattle.ts_sweep.specs.Packed.{AreWithin, name_ends};
 ghost use Rattle.ts_sweep.specs.PairMoves.{
+  IsBegun,
   emission,
   held_atom,
   open_atom,
@@ -22,16 +24,18 @@ ghost use Rattle.ts_sweep.specs.PairMoves.{
   pair_op,
   start_atom,
 };
-ghost use Rattle.ts_sweep.specs.Sides.{has_wide, sides};
+ghost use Rattle.ts_sweep.specs.Sides.{as_read, has_wide, sides};
 
 use crate::between::{Between, On};
 use crate::cell::Cell;
 use ts_automaton::{Atom, Expr, Op, Turn};
+use ts_base::Letter;
 use ts_sweep::cover::Cover;
 use ts_sweep::front::{Front, Register};
 use ts_sweep::packed::{Packed, PackedHull};
 use ts_sweep::pair_move::{AnyMove, Emission, are_begun};
 use ts_sweep::pairs::take_pairs;
+use ts_sweep::spread::take_spread;
 
 /// Whether an expression is a word.
 fn is_word(e: &Expr, word: Atom) -> bool
@@ -198,6 +202,68 @@ fn emit<const N: usize>(by: Emission<'_>, on: On, t: &Between<'_, N>, next: &mut
     }
 }
 
+/// Whether the greatest of the ranges is taken, or the least, where a move that takes in ranges may be swept.
+#[inline(always)]
+fn spread_of<const N: usize>(ranges: Op, letter: Letter) -> Option<bool>
+    ensures { IfSome result (λ greatest. (has_wide N ≡ true) × (ranges ≡ pair_op greatest)) }
+{
+    if !PackedHull::<N>::is_wide() {
+        return None;
+    }
+    match (ranges, letter) {
+        (_, Letter::Equal) | (Op::Add, _) => None,
+        (Op::Max, _) => Some(true),
+        (Op::Min, _) => Some(false),
+    }
+}
+
+/// Takes in a move that joins R with the difference of both cells, by the greatest or else by the least.
+#[inline(never)]
+fn spread<const N: usize>(greatest: bool, on: On, t: &Between<'_, N>, next: &mut [PackedHull<N>])
+    requires covered { IsCovered N t.now }
+    requires wide { has_wide N ≡ true }
+    requires begun { (i : ℕ) → i < count_in t.now.values →
+        some_lanes (lanes_of N (get_or t.now.before.now i (nothing N))) ≡ true →
+        IsBegun (sides N) true true (as_read (sides N) (lanes_of N (get_or t.now.before.now i (nothing N)))) }
+    requires next_packed { IsColumn N (count_in t.now.next_values) next.old }
+    ensures packed { IsColumn N (count_in t.now.next_values) next.new }
+    ensures moved { (m : Move) → m.to ≡ emission true (pair_op greatest) true →
+        HasMoved N t.now on m next.old next.new }
+{
+    take_spread::<PackedHull<N>, Cell<'_>, Cell<'_>>(
+        greatest,
+        on.letter,
+        on.twin,
+        t.values,
+        t.before,
+        t.next_values,
+        next,
+    );
+}
+
+/// Takes in an emission: by a sweep where that may be, or else by pairs of values.
+fn take_begun<const N: usize>(
+    by: Emission<'_>,
+    on: On,
+    t: &Between<'_, N>,
+    next: &mut [PackedHull<N>],
+)
+    requires covered { IsCovered N t.now }
+    requires width { rests is_zero (has_wide N) (move_of by.turn.now).to ≡ true }
+    requires suits { IsMoveFor (sides N) (move_of by.turn.now) }
+    requires made { (move_of by.turn.now).to ≡ emission (has_wide N) by.ranges by.greatest }
+    requires one { has_wide N ≡ true → by.greatest ≡ true }
+    requires fit { AreEmitted N by (count_in t.now.values) t.now.before.now }
+    requires next_packed { IsColumn N (count_in t.now.next_values) next.old }
+    ensures packed { IsColumn N (count_in t.now.next_values) next.new }
+    ensures moved { HasMoved N t.now on (move_of by.entry.turn.now) next.old next.new }
+{
+    match spread_of::<N>(by.ranges, on.letter) {
+        Some(greatest) => spread(greatest, on, t, next),
+        None => emit(by, on, t, next),
+    }
+}
+
 /// Takes in a move as an emission, if it is one.
 fn take_emission<const N: usize>(
     turn: &Turn,
@@ -216,7 +282,7 @@ fn take_emission<const N: usize>(
     match emission_of(turn, PackedHull::<N>::is_wide()) {
         Some((ranges, greatest)) => {
             if is_plain(ranges, t.cover) && are_begun::<PackedHull<N>>(t.before, greatest) {
-                emit(
+                take_begun(
                     Emission {
                         turn,
                         ranges,
