@@ -1,3 +1,4 @@
+mod Cells
 mod FilledRows
 mod Numbers
 mod Singles

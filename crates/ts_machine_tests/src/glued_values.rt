@@ -135,7 +135,7 @@ fn standing_hull(automaton: &Automaton, state: u8, lower: Numbers, upper: Number
 }
 
 /// The value that is glued at a cell of value 9 in a pair of states.
-#[tactic(auto, using(ts_value_tests::proofs::Splits::split_is))]
+#[tactic(auto, using(crate::proofs::Splits::split_is))]
 fn value_at(machine: &Machine, pair: &str) -> Option<Ext> {
     let reverse = machine.reverse()?;
     let left = standing(machine.forward(), state_at(pair, 0)?, LEFT)?;
@@ -143,7 +143,7 @@ fn value_at(machine: &Machine, pair: &str) -> Option<Ext> {
     Some(glue_value(machine, left, right, 9, 7))
 }
 
-#[tactic(auto, using(ts_value_tests::proofs::Splits::split_is))]
+#[tactic(auto, using(crate::proofs::Splits::split_is))]
 fn span_at(machine: &Machine, pair: &str) -> Option<Span> {
     let reverse = machine.reverse()?;
     let left = standing_hull(machine.forward(), state_at(pair, 0)?, LEFT, UPPER_LEFT)?;

@@ -92,7 +92,7 @@ fn span_by_rows(
 }
 
 /// The span where two rows meet at a value, in lanes of the width of both automata.
-#[tactic(auto, using(ts_value_tests::proofs::Splits::split_is))]
+#[tactic(auto, using(crate::proofs::Splits::split_is))]
 fn span_in_lanes<const N: usize>(
     alloc: Global,
     m: &Machine,
@@ -181,7 +181,7 @@ fn is_same_at(alloc: Global, m: &Machine, cells: &Boxed, k: u32) -> Result<bool,
 }
 
 /// The first cell at which they differ, of a machine that can be split.
-#[tactic(auto, using(ts_value_tests::proofs::Splits::split_is))]
+#[tactic(auto, using(crate::proofs::Splits::split_is))]
 fn first_other(alloc: Global, m: &Machine, cells: &Boxed) -> Result<Option<u32>, Fail>
     requires cells { 1 ≤ length cells.now.present }
     requires looks { LooksIn (automata_of m.now) cells.now.present }

@@ -776,7 +776,7 @@ fn meeting_is_told<const N: usize>(
 }
 
 /// The reverse automaton and the joints of a machine that can be split, if its automata are narrow.
-#[tactic(auto, using(ts_value_tests::proofs::Splits::split_is))]
+#[tactic(auto, using(crate::proofs::Splits::split_is))]
 fn narrow_joints(m: &Machine) -> Option<(&Automaton, Joints)>
     requires { (forward_of m.now).wide ≡ false }
     ensures reverse { IfSome result (λ r. r.0.now.wide ≡ false) }
@@ -838,7 +838,7 @@ fn end_holds<const N: usize>(
 }
 
 /// Whether the row of the reverse automaton at a cell is the one that is written.
-#[tactic(auto, using(ts_value_tests::proofs::Splits::split_is))]
+#[tactic(auto, using(crate::proofs::Splits::split_is))]
 fn back_holds<const N: usize>(
     alloc: Global,
     m: &Machine,

@@ -116,7 +116,7 @@ fn ahead_holds(
     row_holds(alloc, &table, k, written, e)
 }
 
-#[tactic(auto, using(ts_value_tests::proofs::Splits::split_is))]
+#[tactic(auto, using(crate::proofs::Splits::split_is))]
 fn back_holds(
     alloc: Global,
     m: &Machine,
@@ -134,7 +134,7 @@ fn back_holds(
 }
 
 /// The span at a cell, and with a value of it alone.
-#[tactic(auto, using(ts_value_tests::proofs::Splits::split_is, crate::proofs::Splits::back_rows))]
+#[tactic(auto, using(crate::proofs::Splits::split_is, crate::proofs::Splits::back_rows))]
 pub(crate) fn spans_at(
     alloc: Global,
     m: &Machine,

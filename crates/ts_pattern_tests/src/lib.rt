@@ -1,11 +1,10 @@
 //! The tests of what is read and told of texts, letters, words, patterns, models and certificates.
 //!
 //! A crate with tests is proved twice, once without them and once with them. So tests of public calls stand in crates
-//! where nothing else is proved: here, in `ts_value_tests` those of automata and of what they tell of a series, in
-//! `ts_machine_tests` those of texts of automata, hulls and spans, in `ts_box_tests` those of boxes and of what a span
-//! excludes, in `ts_tests` those of values of models, searches, verdicts and `ts_run`. What a whole run of a command
-//! tells is no test but a row of `examples/rows`. Each module is named for what it tries, and each expected value comes
-//! from outside the program: from a definition worked out by hand, or by enumeration.
+//! where nothing else is proved: here, in `ts_machine_tests` those of automata, of what they tell of series and boxes,
+//! and of boxes that wait, in `ts_tests` those of values of models, searches, verdicts and `ts_run`. What a whole run
+//! of a command tells is no test but a row of `examples/rows`. Each module is named for what it tries, and each
+//! expected value comes from outside the program: from a definition worked out by hand, or by enumeration.
 #![tactic(auto)]
 
 #[cfg(test)]

@@ -1,5 +1,5 @@
 use Rattle.std.proofs.Common.{rules}
-use Rattle.ts_value_tests.proofs.Splits.{split_is}
+use Rattle.ts_machine_tests.proofs.Splits.{split_is}
 use Rattle.ts_machine_tests.proofs.met.span_in_lanes.Goals as goal
 
 pub met-requires : goal.met-requires

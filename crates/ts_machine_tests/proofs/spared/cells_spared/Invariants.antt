@@ -1,7 +1,7 @@
 use Rattle.std.proofs.Common.{◌≡◌, ◌<◌}
 use Rattle.ts_witness.specs.KnownValues.{AreBeside, IsSpared}
 use Rattle.ts_witness.specs.Witnesses.{IsWitness, series_of}
-use Rattle.ts_box_tests.proofs.spared.cells_spared.Given as goal
+use Rattle.ts_machine_tests.proofs.spared.cells_spared.Given as goal
 
 abbrev pub invariant-loop-k : goal.invariant-loop-k
 invariant-loop-k l = record {

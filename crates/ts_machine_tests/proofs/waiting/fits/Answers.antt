@@ -3,7 +3,7 @@ use Rattle.std.specs.Prelude.{Contains}
 use Rattle.std.proofs.lemmas.Int.{ints, to_z-of_z}
 use mir.Syntax.{w64}
 use Rattle.ts_frontier.proofs.Stays.{split_may, removal_may}
-use Rattle.ts_box_tests.proofs.waiting.fits.Goals as goal
+use Rattle.ts_machine_tests.proofs.waiting.fits.Goals as goal
 
 pub returns-then-ends-t : goal.returns-then-ends-t
 returns-then-ends-t c = λ above.

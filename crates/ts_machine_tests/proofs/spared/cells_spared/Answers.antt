@@ -1,6 +1,6 @@
 use Rattle.std.proofs.Common.{◌∙◌, sym, subst, arith}
 use Rattle.ts_witness.specs.KnownValues.{AreBeside}
-use Rattle.ts_box_tests.proofs.spared.cells_spared.Goals as goal
+use Rattle.ts_machine_tests.proofs.spared.cells_spared.Goals as goal
 
 pub loop-k-init : goal.loop-k-init
 loop-k-init c = record {

@@ -1,7 +1,7 @@
 use Rattle.std.proofs.Common.{rules, ◌≡◌, ◌∙◌, sym, subst}
 use Rattle.ts_automaton.specs.AutomatonRun.{AreCellValues}
-use Rattle.ts_box_tests.proofs.Cells.{cells_of}
-use Rattle.ts_box_tests.proofs.spared.row_holds.Goals as goal
+use Rattle.ts_machine_tests.proofs.Cells.{cells_of}
+use Rattle.ts_machine_tests.proofs.spared.row_holds.Goals as goal
 
 pub cells_spared-requires-clause-values : goal.cells_spared-requires-clause-values
 cells_spared-requires-clause-values c =
