@@ -1,6 +1,6 @@
 //! The automaton of a text.
 
-ghost use Rattle.std.specs.Prelude.{◌≡◌, ◌≤◌, ◌*◌, ◌++◌, [], ◌∷◌, map, length, IsSome, IfOk, IfSome};
+ghost use Rattle.std.specs.Prelude.{◌≡◌, ◌≤◌, ◌*◌, ◌++◌, [], ◌∷◌, map, length, IfOk};
 ghost use Rattle.ts_automaton.specs.Body.{move_of, node_of, parts_of};
 ghost use Rattle.ts_automaton.specs.AutomatonText.{state_lines, all_moves, sheet_of};
 ghost use Rattle.ts_automaton.specs.Grammar.{IsSheet};
@@ -77,34 +77,23 @@ fn grouped(
 {
     let mut states = Vec::new(alloc);
     for line in lines {
-        if let Some(state) = next_state(*line, &mut moves) {
-            states.push(state)?;
-        }
+        states.push(next_state(*line, &mut moves))?;
     }
     Ok(states)
 }
 
 /// The state of this line, with the next three moves.
-fn next_state(line: StateLine, moves: &mut VecDeque<Turn>) -> Option<State>
+fn next_state(line: StateLine, moves: &mut VecDeque<Turn>) -> State
     requires { 3 ≤ length moves.old.items }
-    ensures some { IsSome result }
-    ensures line { IfSome result (λ s. (s.name ≡ line.name) × (s.held ≡ line.held)) }
-    ensures moves { IfSome result (λ s.
-        map move_of moves.old.items ≡ all_moves (node_of s ∷ []) ++ map move_of moves.new.items) }
+    ensures line { (result.name ≡ line.name) × (result.held ≡ line.held) }
+    ensures moves { map move_of moves.old.items ≡ all_moves (node_of result ∷ []) ++ map move_of moves.new.items }
 {
-    let three = moves
-        .pop_front()
-        .zip(moves.pop_front())
-        .zip(moves.pop_front());
-    match three {
-        Some(((less, equal), greater)) => Some(State {
-            name: line.name,
-            held: line.held,
-            less,
-            equal,
-            greater,
-        }),
-        None => None,
+    State {
+        name: line.name,
+        held: line.held,
+        less: moves.pop_front().unwrap(),
+        equal: moves.pop_front().unwrap(),
+        greater: moves.pop_front().unwrap(),
     }
 }
 
