@@ -1,3 +1,4 @@
 pub mod Closed
 mod Joins
 pub mod Plans
+pub mod Kept

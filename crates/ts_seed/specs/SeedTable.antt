@@ -7,6 +7,8 @@ use Rattle.ts_pattern.specs.declared.name.PatternId.{PatternId}
 use Rattle.ts_pattern.specs.declared.name.PatternId.TheVariants.{Increasing, Decreasing, Steady, IncreasingSequence, DecreasingSequence, StrictlyIncreasingSequence, StrictlyDecreasingSequence, SteadySequence, IncreasingTerrace, DecreasingTerrace, Inflexion, Peak, Valley, Plateau, Plain, ProperPlateau, ProperPlain, Summit, Gorge, Zigzag, DipOnIncreasingSequence, BumpOnDecreasingSequence}
 use Rattle.ts_pattern.specs.PatternTable.{pattern_shape}
 use Rattle.ts_pattern.specs.Plans.{PlainPlan}
+use Rattle.ts_seed.specs.declared.table.Reading.{Reading}
+use Rattle.ts_seed.specs.declared.table.Reading.TheVariants.{Printed, Mirrored}
 use Rattle.ts_seed.specs.Table.{Table, mirror_of, plan_of}
 use Rattle.ts_seed.specs.Sequences.{increasing, steady, increasing_sequence, strictly_increasing_sequence, steady_sequence}
 use Rattle.ts_seed.specs.Terraces.{increasing_terrace, proper_plateau}
@@ -40,6 +42,19 @@ table_of Gorge = mirror_of summit
 table_of Zigzag = zigzag
 table_of DipOnIncreasingSequence = dip_on_increasing_sequence
 table_of BumpOnDecreasingSequence = mirror_of dip_on_increasing_sequence
+
+-- how a printed table is read to be that of the pattern
+abbrev pub reading_of : PatternId → Reading
+reading_of Decreasing = Mirrored
+reading_of DecreasingSequence = Mirrored
+reading_of StrictlyDecreasingSequence = Mirrored
+reading_of DecreasingTerrace = Mirrored
+reading_of Valley = Mirrored
+reading_of Plain = Mirrored
+reading_of ProperPlain = Mirrored
+reading_of Gorge = Mirrored
+reading_of BumpOnDecreasingSequence = Mirrored
+reading_of id = Printed
 
 -- the pattern whose e-ranges are the same cells where the series is read from its end, if there is one
 abbrev pub partner_of : PatternId → Option PatternId

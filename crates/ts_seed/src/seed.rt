@@ -8,7 +8,7 @@ ghost use Rattle.ts_transducer.specs.Typing.{is_typed};
 ghost use Rattle.ts_pattern.specs.PatternTable.{pattern_shape, pattern_b};
 ghost use Rattle.ts_pattern.specs.Plans.{subject, plain_plan, is_plan_of};
 ghost use Rattle.ts_pattern.specs.Closed.{IsClosed};
-ghost use Rattle.ts_seed.specs.SeedTable.{table_of, seed_table};
+ghost use Rattle.ts_seed.specs.SeedTable.{table_of, reading_of, seed_table};
 ghost use Rattle.ts_seed.specs.Seeds.{seed_of};
 ghost use Rattle.ts_seed.specs.Written.{from_earlier, table_read};
 
@@ -76,29 +76,50 @@ fn table_of(id: PatternId) -> (PrintedTable, Reading)
     ensures typed { IsTrue (is_typed (table_of id).rows) }
     ensures earlier { IsTrue (from_earlier 1 result.0.residuals.now) }
 {
+    (printed(id), reading_of(id))
+}
+
+/// How the table of that pattern is read.
+fn reading_of(id: PatternId) -> Reading
+    ensures { result ≡ reading_of id }
+{
     match id {
-        PatternId::Increasing => (INCREASING, Reading::Printed),
-        PatternId::Decreasing => (INCREASING, Reading::Mirrored),
-        PatternId::Steady => (STEADY, Reading::Printed),
-        PatternId::IncreasingSequence => (INCREASING_SEQUENCE, Reading::Printed),
-        PatternId::DecreasingSequence => (INCREASING_SEQUENCE, Reading::Mirrored),
-        PatternId::StrictlyIncreasingSequence => (STRICTLY_INCREASING_SEQUENCE, Reading::Printed),
-        PatternId::StrictlyDecreasingSequence => (STRICTLY_INCREASING_SEQUENCE, Reading::Mirrored),
-        PatternId::SteadySequence => (STEADY_SEQUENCE, Reading::Printed),
-        PatternId::IncreasingTerrace => (INCREASING_TERRACE, Reading::Printed),
-        PatternId::DecreasingTerrace => (INCREASING_TERRACE, Reading::Mirrored),
-        PatternId::Inflexion => (INFLEXION, Reading::Printed),
-        PatternId::Peak => (PEAK, Reading::Printed),
-        PatternId::Valley => (PEAK, Reading::Mirrored),
-        PatternId::Plateau => (PLATEAU, Reading::Printed),
-        PatternId::Plain => (PLATEAU, Reading::Mirrored),
-        PatternId::ProperPlateau => (PROPER_PLATEAU, Reading::Printed),
-        PatternId::ProperPlain => (PROPER_PLATEAU, Reading::Mirrored),
-        PatternId::Summit => (SUMMIT, Reading::Printed),
-        PatternId::Gorge => (SUMMIT, Reading::Mirrored),
-        PatternId::Zigzag => (ZIGZAG, Reading::Printed),
-        PatternId::DipOnIncreasingSequence => (DIP_ON_INCREASING_SEQUENCE, Reading::Printed),
-        PatternId::BumpOnDecreasingSequence => (DIP_ON_INCREASING_SEQUENCE, Reading::Mirrored),
+        PatternId::Decreasing
+        | PatternId::DecreasingSequence
+        | PatternId::StrictlyDecreasingSequence
+        | PatternId::DecreasingTerrace
+        | PatternId::Valley
+        | PatternId::Plain
+        | PatternId::ProperPlain
+        | PatternId::Gorge
+        | PatternId::BumpOnDecreasingSequence => Reading::Mirrored,
+        _ => Reading::Printed,
+    }
+}
+
+/// The table of that pattern as it is printed.
+// Each table stands once, and one clause alone reads it: a table in a body is dear to prove.
+fn printed(id: PatternId) -> PrintedTable
+    ensures { table_read (reading_of id) result ≡ table_of id }
+{
+    match id {
+        PatternId::Increasing | PatternId::Decreasing => INCREASING,
+        PatternId::Steady => STEADY,
+        PatternId::IncreasingSequence | PatternId::DecreasingSequence => INCREASING_SEQUENCE,
+        PatternId::StrictlyIncreasingSequence | PatternId::StrictlyDecreasingSequence => {
+            STRICTLY_INCREASING_SEQUENCE
+        }
+        PatternId::SteadySequence => STEADY_SEQUENCE,
+        PatternId::IncreasingTerrace | PatternId::DecreasingTerrace => INCREASING_TERRACE,
+        PatternId::Inflexion => INFLEXION,
+        PatternId::Peak | PatternId::Valley => PEAK,
+        PatternId::Plateau | PatternId::Plain => PLATEAU,
+        PatternId::ProperPlateau | PatternId::ProperPlain => PROPER_PLATEAU,
+        PatternId::Summit | PatternId::Gorge => SUMMIT,
+        PatternId::Zigzag => ZIGZAG,
+        PatternId::DipOnIncreasingSequence | PatternId::BumpOnDecreasingSequence => {
+            DIP_ON_INCREASING_SEQUENCE
+        }
     }
 }
 

@@ -37,7 +37,7 @@ pub struct PrintedTable {
 }
 
 /// How a table is read.
-#[derive(Clone, Copy, Debug, PartialEq, Eq)]
+#[derive(Clone, Copy)]
 pub enum Reading {
     /// As it is printed.
     Printed,
