@@ -7,7 +7,7 @@ use mir.Syntax.{w64}
 use Rattle.std.specs.Prelude.{filter, int_le, int_lt, Contains}
 use Rattle.ts_domain.specs.declared.interval.Interval.{Interval}
 use Rattle.ts_domain.specs.Values.{values_of, RangesFrom}
-use Rattle.ts_domain.specs.Pieces.{values_in, IsPiece, IsLastUpTo, IsFirstFrom, IsPartOf}
+use Rattle.ts_domain.specs.Pieces.{values_in, IsPiece, SomeFrom, IsLastUpTo, IsFirstFrom, IsPartOf}
 use Rattle.ts_domain.proofs.Ranges.{values_within}
 use Rattle.ts_domain.proofs.Sets.{each_contains, true_le, true_lt}
 use Rattle.ts_domain.proofs.Places.{small_is}
@@ -68,15 +68,28 @@ pub above_whole : (rs : List Interval) (p : Interval) (t : ℤ) → RangesFrom (
     int_lt (m t) (m p.low) ≡ true → IsPartOf (values_of rs) (λ v. int_lt t v) p p
 above_whole rs p t a is fits test = whole_above (values_of rs) p t is (lt_is (m t) (m p.low) t p.low (to_z-of_z w64 t fits) (ends_small rs p a is).0 test)
 
+-- the number after t, and that the set has one from it on
+next_is : (rs : List Interval) (p : Interval) (t : ℤ) → RangesFrom (neg_ℤ (pos 1000000)) rs → IsPiece (values_of rs) p → p.low ≤ℤ t → t <ℤ p.high →
+    m t ≡ t → m (m t +ℤ pos 1) ≡ t +ℤ pos 1
+next_is rs p t a is low high t_is =
+    let l = value_within rs p.low a is.1 in let h = value_within rs p.high a is.2 in
+    ap (λ x. m (x +ℤ pos 1)) t_is ∙ small_is (t +ℤ pos 1) (omega (arith, ints, l.0, low)) (omega (arith, ints, h.1, high))
+
+pub above_some : (rs : List Interval) (p : Interval) (t : ℤ) → RangesFrom (neg_ℤ (pos 1000000)) rs → IsPiece (values_of rs) p → SFits w64 t →
+    int_lt (m t) (m p.low) ≡ false → int_lt (m t) (m p.high) ≡ true → SomeFrom (values_of rs) (m (m t +ℤ pos 1))
+above_some rs p t a is fits from to =
+    let e = ends_small rs p a is in let t_is = to_z-of_z w64 t fits in
+    let low = not_lt (m t) (m p.low) t p.low t_is e.0 from in let high = lt_is (m t) (m p.high) t p.high t_is e.1 to in
+    let after : (t +ℤ pos 1) ≤ℤ p.high = omega (arith, ints, high) in
+    (p.high, is.2, subst (λ x. x ≤ℤ p.high) (sym (next_is rs p t a is low high t_is)) after)
+
 pub above_cut : (rs : List Interval) (p : Interval) (t v : ℤ) → RangesFrom (neg_ℤ (pos 1000000)) rs → IsPiece (values_of rs) p → SFits w64 t →
     int_lt (m t) (m p.low) ≡ false → int_lt (m t) (m p.high) ≡ true → SFits w64 v →
     IsFirstFrom (values_of rs) (m (m t +ℤ pos 1)) v → IsPartOf (values_of rs) (λ v. int_lt t v) p (record { low = m v; high = m p.high })
 above_cut rs p t v a is fits from to fit first =
     let e = ends_small rs p a is in let t_is = to_z-of_z w64 t fits in
     let low = not_lt (m t) (m p.low) t p.low t_is e.0 from in let high = lt_is (m t) (m p.high) t p.high t_is e.1 to in
-    let l = value_within rs p.low a is.1 in let h = value_within rs p.high a is.2 in
-    let next : m (m t +ℤ pos 1) ≡ t +ℤ pos 1 = ap (λ x. m (x +ℤ pos 1)) t_is ∙
-    small_is (t +ℤ pos 1) (omega (arith, ints, l.0, low)) (omega (arith, ints, h.1, high)) in
+    let next = next_is rs p t a is low high t_is in
     let part = cut_above (values_of rs) p t v is low high (subst (λ t. IsFirstFrom (values_of rs) t v) next first) in
     subst (λ h. IsPartOf (values_of rs) (λ v. int_lt t v) p (record { low = m v; high = h })) (sym e.1)
     (subst (λ l. IsPartOf (values_of rs) (λ v. int_lt t v) p (record { low = l; high = p.high })) (sym (to_z-of_z w64 v fit)) part)

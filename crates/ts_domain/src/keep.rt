@@ -9,7 +9,7 @@ use std::alloc::Global;
 use ts_base::Memory;
 
 /// The values that stay: those up to a number, those above it, or all but one.
-#[derive(Clone, Copy, Debug, PartialEq, Eq)]
+#[derive(Clone, Copy)]
 pub enum Keep {
     UpTo(i64),
     Above(i64),

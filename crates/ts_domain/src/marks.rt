@@ -18,7 +18,7 @@ use ts_base::Memory;
 mod reading;
 
 /// A number at which a set differs from the one that it was made of: there it is gone, or there alone it is.
-#[derive(Clone, Copy, Debug, PartialEq, Eq)]
+#[derive(Clone, Copy, PartialEq, Eq)]
 pub(crate) struct Mark {
     pub(crate) value: i64,
     pub(crate) gone: bool,
