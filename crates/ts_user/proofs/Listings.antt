@@ -24,7 +24,7 @@ use Rattle.ts_user.specs.Numbered.{AreNumbered, live_numbers, entry_numbers}
 use Rattle.ts_user.specs.declared.keys.Keys.{Keys}
 use Rattle.ts_user.specs.Keys.{key_lists, configuration_key, IsPlaced}
 use Rattle.ts_user.specs.Books.{residuals_of, IsBook, Grows, AreListed, values, value_of, IsStep}
-use Rattle.ts_user.specs.Listings.{IsTaken, IsReady, signatures_of, IsListed, AreSame, IsNew, IsFull}
+use Rattle.ts_user.specs.Listings.{IsTaken, IsReady, signatures_of, IsBegun, IsListed, AreSame, IsNew, IsFull}
 use Rattle.ts_user.proofs.Places.{place_push}
 use Rattle.ts_user.proofs.KeyLaws.{key_at, key_there, same_configuration, configuration_keys_same}
 use Rattle.ts_user.proofs.Books.{book_length, push_length, get_push, get_there}
@@ -386,7 +386,7 @@ taken_ready s p old new k g q e h =
 
 -- the first configuration
 
-pub first_listed : (s : Subject Shape) (p : Shape) (t : Listing) (x : Configuration) (w : Shape) → IsBook p t.book → residuals_of t.book ≡ w ∷ [] →
+first_listed : (s : Subject Shape) (p : Shape) (t : Listing) (x : Configuration) (w : Shape) → IsBook p t.book → residuals_of t.book ≡ w ∷ [] →
     t.configurations.items ≡ x ∷ [] → x.state ≡ 0 → x.live.items ≡ [] → signatures_of t ≡ [] ∷ [] → key_lists t.keys ≡ configuration_key x ∷ [] → IsListed s p t
 first_listed s p t x w b r c st lv ws ks =
     record {
@@ -420,6 +420,11 @@ first_listed s p t x w b r c st lv ws ks =
         subst (λ (z : Configuration). AreListed (residuals_of t.book) z.live.items) (same_Some x y q)
         (subst (λ z. AreListed (residuals_of t.book) z) (sym lv) tt)
     listed_in (suc i) y q = absurd (none-some y q)
+
+pub begun_listed : (s : Subject Shape) (p : Shape) (t : Listing) (book : Book) (w : Shape) → t.book ≡ book → IsBook p book → residuals_of book ≡ w ∷ [] →
+    IsBegun t → IsListed s p t
+begun_listed s p t book w same is only h =
+    first_listed s p t h.blank w (subst (λ z. IsBook p z) (sym same) is) (ap (λ z. residuals_of z) same ∙ only) h.alone h.start h.empty h.signatures h.keys
 
 pub first_one : {A : Type 0} (xs old : List A) (x : A) → xs ≡ old ++ x ∷ [] → old ≡ [] → xs ≡ x ∷ []
 first_one xs old x e q = e ∙ ap (λ z. z ++ x ∷ []) q

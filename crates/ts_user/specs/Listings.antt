@@ -1,5 +1,5 @@
 -- What is known while configurations are listed.
-use Rattle.std.specs.Prelude.{◌≡◌, ℕ, ◌+◌, ◌*◌, ◌<◌, ◌≤◌, true, List, Some, map, length, slice_get}
+use Rattle.std.specs.Prelude.{◌≡◌, ℕ, ◌+◌, ◌*◌, ◌<◌, ◌≤◌, true, List, [], ◌∷◌, Some, map, length, slice_get}
 use Rattle.ts_base.specs.declared.letter.Letter.{Letter}
 use Rattle.ts_regex.specs.Shape.{Shape}
 use Rattle.ts_pattern.specs.Closed.{Subject}
@@ -56,6 +56,15 @@ pub record IsListed (s : Subject Shape) (p : Shape) (t : Listing) : Type 0 where
   pub few : length t.configurations.items ≤ most_configurations
   pub few_entries : (i : ℕ) (x : Configuration) → slice_get t.configurations.items i ≡ Some x →
       length x.live.items ≤ i
+
+-- the start state with no entry is listed alone, by no signs
+pub record IsBegun (t : Listing) : Type 0 where
+  pub blank : Configuration
+  pub alone : t.configurations.items ≡ blank ∷ []
+  pub start : blank.state ≡ 0
+  pub empty : blank.live.items ≡ []
+  pub signatures : signatures_of t ≡ [] ∷ []
+  pub keys : key_lists t.keys ≡ configuration_key blank ∷ []
 
 -- the same state and the same entries
 abbrev pub AreSame : Configuration → Configuration → Type 0

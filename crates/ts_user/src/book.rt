@@ -111,11 +111,26 @@ impl Book {
         ensures whole { IfOk result (λ b. residuals_of b ≡ normal_form (shape_of p.now.regex) ∷ []) }
     {
         let mut book = Book::blank(alloc);
-        let stated = book.forms.add(&p.regex)?;
-        let whole = book.forms.normal(alloc, stated)?;
-        book.places.insert(whole)?;
-        book.add(whole)?;
+        book.begin(alloc, p)?;
         Ok(book)
+    }
+
+    /// Adds the whole pattern as the first residual.
+    // A call of its own, since each early return of a body that owns the book drops it, which is dear to prove.
+    fn begin(&mut self, alloc: Global, p: &Pattern) -> Result<(), Memory>
+        requires forms { IsTable self.old.forms }
+        requires residuals { self.old.residuals.items ≡ [] }
+        requires places { self.old.places.keys ≡ [] }
+        requires words { self.old.words.items ≡ [] }
+        requires nexts { self.old.nexts.items ≡ [] }
+        ensures book { IfOk result (λ _. IsBook (shape_of p.now.regex) self.new) }
+        ensures whole { IfOk result (λ _. residuals_of self.new ≡ normal_form (shape_of p.now.regex) ∷ []) }
+    {
+        let stated = self.forms.add(&p.regex)?;
+        let whole = self.forms.normal(alloc, stated)?;
+        self.places.insert(whole)?;
+        self.add(whole)?;
+        Ok(())
     }
 
     /// Adds a residual as the last; its place is there.

@@ -5,7 +5,8 @@ ghost use Rattle.ts_regex.specs.Shape.{shape_of};
 ghost use Rattle.ts_user.specs.SignatureOrder.{place, signature_at};
 ghost use Rattle.ts_user.specs.Books.{residuals_of, IsBook};
 ghost use Rattle.ts_user.specs.BuildAnswers.{unplanned_of, IsStop};
-ghost use Rattle.ts_user.specs.Listings.{IsTaken, IsReady, IsListed, IsFull, signatures_of};
+ghost use Rattle.ts_user.specs.Keys.{key_lists};
+ghost use Rattle.ts_user.specs.Listings.{IsTaken, IsReady, IsBegun, IsListed, IsFull, signatures_of};
 
 use crate::book::Book;
 use crate::build_stop::BuildStop;
@@ -36,23 +37,33 @@ impl Listing {
         ensures ready { IfOk result (λ t. IsReady (unplanned_of rows.now p.now) (signatures_of t) 0) }
     {
         let book = Book::new(alloc, p)?;
+        let mut listing = Listing {
+            book,
+            configurations: Vec::new(alloc),
+            signatures: Vec::new(alloc),
+            keys: Keys::new(alloc),
+        };
+        listing.begin(alloc)?;
+        Ok(listing)
+    }
+
+    /// Lists the start state with no entry, by no signs, where nothing is listed.
+    // A call of its own, since each early return of a body that owns the listing drops it, which is dear to prove.
+    fn begin(&mut self, alloc: Global) -> Result<(), Memory>
+        requires configurations { self.old.configurations.items ≡ [] }
+        requires signatures { self.old.signatures.items ≡ [] }
+        requires keys { key_lists self.old.keys ≡ [] }
+        ensures book { self.new.book ≡ self.old.book }
+        ensures begun { IfOk result (λ _. IsBegun self.new) }
+    {
         let blank = Configuration {
             state: 0,
             live: Vec::new(alloc),
         };
-        let mut keys = Keys::new(alloc);
         let key = configuration_key(alloc, &blank)?;
-        keys.place(key)?;
-        let mut configurations = Vec::new(alloc);
-        configurations.push(blank)?;
-        let mut signatures = Vec::new(alloc);
-        signatures.push(Vec::new(alloc))?;
-        Ok(Listing {
-            book,
-            configurations,
-            signatures,
-            keys,
-        })
+        self.keys.place(key)?;
+        self.push(blank, Vec::new(alloc))?;
+        Ok(())
     }
 
     /// Looks at the step of configuration `from` on a letter, and lists what is new. `rows` and `p` are those that the

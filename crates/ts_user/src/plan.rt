@@ -8,7 +8,7 @@ ghost use Rattle.ts_pattern.specs.Plans.{plain_plan, is_plan_of};
 ghost use Rattle.ts_validate.specs.Reaches.{against};
 ghost use Rattle.ts_user.specs.BuildAnswers.{unplanned_of, values_of, IsListing, IsStop};
 ghost use Rattle.ts_user.specs.Numbered.{HasResidualsOnce, IsNumbered};
-ghost use Rattle.ts_user.specs.Listings.{IsListed, IsWhole, signatures_of};
+ghost use Rattle.ts_user.specs.Listings.{IsListed, IsReady, IsWhole, signatures_of};
 
 use crate::build_stop::BuildStop;
 use crate::listing::Listing;
@@ -23,12 +23,30 @@ fn list_all(alloc: Global, rows: &[Row], p: &Pattern) -> Result<Listing, BuildSt
     ensures stop { IfErr result (λ e. IsStop (unplanned_of rows.now p.now) e) }
 {
     let mut listing = Listing::new(alloc, rows, p)?;
+    expand_all(alloc, &mut listing, rows, p)?;
+    Ok(listing)
+}
+
+/// Takes the steps of each configuration that is listed, and of those that come in by them.
+// A call of its own: a return out of a loop that owns the listing is dear to prove.
+fn expand_all(
+    alloc: Global,
+    listing: &mut Listing,
+    rows: &[Row],
+    p: &Pattern,
+) -> Result<(), BuildStop>
+    requires listed { IsListed (unplanned_of rows.now p.now) (shape_of p.now.regex) listing.old }
+    requires ready { IsReady (unplanned_of rows.now p.now) (signatures_of listing.old) 0 }
+    ensures listed { IfOk result (λ _. IsListed (unplanned_of rows.now p.now) (shape_of p.now.regex) listing.new) }
+    ensures whole { IfOk result (λ _. IsWhole (unplanned_of rows.now p.now) (signatures_of listing.new)) }
+    ensures stop { IfErr result (λ e. IsStop (unplanned_of rows.now p.now) e) }
+{
     let mut next = 0;
     while next < listing.configurations.len() {
         listing.expand(alloc, rows, p, next)?;
         next += 1;
     }
-    Ok(listing)
+    Ok(())
 }
 
 /// The plan of a transducer for a pattern: the at most 512 configurations in which the two can stand together, in the

@@ -2,7 +2,7 @@ use Rattle.std.proofs.Common.{◌≡◌, length, rules}
 use Rattle.ts_regex.specs.Shape.{shape_of}
 use Rattle.ts_user.specs.BuildAnswers.{unplanned_of}
 use Rattle.ts_user.proofs.Plans.{all_taken}
-use Rattle.ts_user.proofs.plan.list_all.Goals as goal
+use Rattle.ts_user.proofs.plan.expand_all.Goals as goal
 
 pub returns-clause-whole : goal.returns-clause-whole
 returns-clause-whole c =

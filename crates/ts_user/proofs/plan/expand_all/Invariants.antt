@@ -2,7 +2,7 @@ use Rattle.std.proofs.Common.{◌≤◌, ◌-◌, length}
 use Rattle.ts_regex.specs.Shape.{shape_of}
 use Rattle.ts_user.specs.BuildAnswers.{unplanned_of}
 use Rattle.ts_user.specs.Listings.{IsListed, IsReady, signatures_of}
-use Rattle.ts_user.proofs.plan.list_all.Given as goal
+use Rattle.ts_user.proofs.plan.expand_all.Given as goal
 
 abbrev pub invariant-loop-next : goal.invariant-loop-next
 invariant-loop-next l = record {
