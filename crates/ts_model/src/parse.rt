@@ -195,12 +195,15 @@ fn parse_require<'a>(words: &[Word<'a>]) -> Result<Statement<'a>, LineStop>
     if words.len() != 3 {
         return Err(LineStop::Bad(ModelKind::Shape));
     }
-    match (name_of(text_at(words, 0)), op_of(text_at(words, 1))) {
-        (Some(name), Some(op)) => match ext_of(text_at(words, 2)) {
-            Some(bound) => Ok(Statement::Require(name, op, bound)),
-            None => Err(LineStop::Bad(ModelKind::Number)),
-        },
-        _ => Err(LineStop::Bad(ModelKind::Shape)),
+    let Some(name) = name_of(text_at(words, 0)) else {
+        return Err(LineStop::Bad(ModelKind::Shape));
+    };
+    let Some(op) = op_of(text_at(words, 1)) else {
+        return Err(LineStop::Bad(ModelKind::Shape));
+    };
+    match ext_of(text_at(words, 2)) {
+        Some(bound) => Ok(Statement::Require(name, op, bound)),
+        None => Err(LineStop::Bad(ModelKind::Number)),
     }
 }
 
