@@ -1,6 +1,6 @@
 //! The text of a certificate.
 
-ghost use Rattle.std.specs.Prelude.{◌≡◌, ◌+◌, ◌++◌, ◌∷◌, ◌<◌, ◌^◌, length, map, OnOk, IfOk};
+ghost use Rattle.std.specs.Prelude.{◌≡◌, ◌+◌, ◌++◌, ◌∷◌, [], ◌<◌, ◌^◌, length, map, OnOk, IfOk};
 ghost use Rattle.std.specs.Fmt.{signed_decimal};
 ghost use Rattle.ts_base.specs.Text.{ext_text};
 ghost use Rattle.ts_base.specs.Words.{behind, full_line};
@@ -8,7 +8,6 @@ ghost use Rattle.ts_certificate.specs.Certificate.{cert_seen, certificate_text, 
 ghost use Rattle.ts_certificate.specs.Certificate.{checked_count, open_count, end_line};
 ghost use Rattle.ts_certificate.specs.Grammar.{line_text};
 ghost use Rattle.ts_certificate.specs.HeadLines.{aim_words, claim_words};
-ghost use Rattle.ts_certificate.specs.Ranges.{count_text};
 ghost use Rattle.ts_certificate.specs.TreeLines.{tree_words};
 
 use crate::certificate::{Aim, Certificate, Claim, TreeLine};
@@ -22,13 +21,6 @@ fn push_spaced(text: &mut Vec<u8>, n: i64) -> Result<(), Memory>
 {
     text.push(b' ')?;
     push_number(text, n)
-}
-
-/// Appends a space and a count to `text`.
-fn push_count(text: &mut Vec<u8>, n: u32) -> Result<(), Memory>
-    ensures { OnOk result (text.new.items ≡ text.old.items ++ (32 ∷ count_text n)) }
-{
-    push_spaced(text, i64::from(n))
 }
 
 /// Appends the line of a word and numbers to `text`.
@@ -67,12 +59,16 @@ fn push_aim(text: &mut Vec<u8>, aim: Aim) -> Result<(), Memory>
     }
 }
 
-/// Appends a space and a value to `text`.
-fn push_value(text: &mut Vec<u8>, value: Ext) -> Result<(), Memory>
-    ensures { OnOk result (text.new.items ≡ text.old.items ++ (32 ∷ ext_text value)) }
+/// Appends the line of a word and a value to `text`.
+fn push_value_line(text: &mut Vec<u8>, first: &[u8], value: Ext) -> Result<(), Memory>
+    ensures { OnOk result (text.new.items ≡ text.old.items
+        ++ full_line (record { first = first.now; more = ext_text value ∷ [] })) }
 {
+    text.extend_from_slice(first)?;
     text.push(b' ')?;
-    push_ext(text, value)
+    push_ext(text, value)?;
+    text.push(b'\n')?;
+    Ok(())
 }
 
 /// Appends the claim line to `text`.
@@ -80,31 +76,14 @@ fn push_claim(text: &mut Vec<u8>, claim: Claim) -> Result<(), Memory>
     ensures { OnOk result (text.new.items ≡ text.old.items ++ full_line (claim_words claim)) }
 {
     match claim {
-        Claim::Best(value) => {
-            text.extend_from_slice(b"best")?;
-            push_value(text, value)?;
-        }
-        Claim::Infeasible => text.extend_from_slice(b"infeasible")?,
-        Claim::BudgetBest(value) => {
-            text.extend_from_slice(b"budget")?;
-            push_value(text, value)?;
-        }
-        Claim::BudgetNone => text.extend_from_slice(b"budget none")?,
-        Claim::Full(count) => {
-            text.extend_from_slice(b"full")?;
-            push_count(text, count)?;
-        }
-        Claim::All(count) => {
-            text.extend_from_slice(b"all")?;
-            push_count(text, count)?;
-        }
-        Claim::BudgetList(count) => {
-            text.extend_from_slice(b"budget")?;
-            push_count(text, count)?;
-        }
+        Claim::Best(value) => push_value_line(text, b"best", value),
+        Claim::Infeasible => push_line(text, b"infeasible", &[]),
+        Claim::BudgetBest(value) => push_value_line(text, b"budget", value),
+        Claim::BudgetNone => push_line(text, b"budget none", &[]),
+        Claim::Full(count) => push_line(text, b"full", &[i64::from(count)]),
+        Claim::All(count) => push_line(text, b"all", &[i64::from(count)]),
+        Claim::BudgetList(count) => push_line(text, b"budget", &[i64::from(count)]),
     }
-    text.push(b'\n')?;
-    Ok(())
 }
 
 /// Appends numbers to `text`, each after a space.
@@ -161,11 +140,7 @@ fn push_end(text: &mut Vec<u8>, tree: &[TreeLine]) -> Result<(), Memory>
     ensures { OnOk result (text.new.items ≡ text.old.items ++ line_text (end_line tree.now)) }
 {
     let (checked, unsearched) = counts_of(tree);
-    text.extend_from_slice(b"end")?;
-    push_spaced(text, checked as i64)?;
-    push_spaced(text, unsearched as i64)?;
-    text.push(b'\n')?;
-    Ok(())
+    push_line(text, b"end", &[checked as i64, unsearched as i64])
 }
 
 /// No fewer bytes than the text of a certificate has whose numbers are within their ranges: 21 for each line of its
