@@ -17,7 +17,7 @@ use ts_base::Memory;
 const MOST_KEPT: usize = 64;
 
 /// Where the bytes of a line have led.
-#[derive(Clone, Copy, Debug, PartialEq, Eq)]
+#[derive(Clone, Copy)]
 pub(crate) enum Place {
     /// Before the first byte.
     Start,
