@@ -15,7 +15,7 @@ use std::cmp::Ordering;
 use ts_base::Memory;
 
 /// What a chain of two normal forms is.
-#[derive(Clone, Copy, Debug, PartialEq, Eq)]
+#[derive(Clone, Copy)]
 pub enum Joined {
     First,
     Second,
