@@ -102,23 +102,26 @@ lesser_apart above true true r v w p q = min_right (end_of above r) (apart above
 lesser_apart above false true r v w p q = omega (arith, ints)
 lesser_apart above bounded false r v w p q = apart_low above v w p q
 
+-- values in rising order
+ordered : (v : ℕ → ℤ) (n i j : ℕ) → ((i j : ℕ) → i < j → j < n → v i <ℤ v j) → i ≤ j → j < n → v i ≤ℤ v j
+ordered v n i j rises le inside = go (before_or i j (omega (arith, le)))
+  where
+    go : (i < j) ⊎ (i ≡ j) → v i ≤ℤ v j
+    go (inl less) = let lt = rises i j less inside in omega (arith, ints, lt)
+    go (inr same) = let e : v i ≡ v j = ap v same in omega (arith, ints, e)
+
+down_ordered : (v : ℕ → ℤ) (n k q : ℕ) → ((i j : ℕ) → i < j → j < n → v i <ℤ v j) → k ≤ q → q < n →
+    v (step_place false n q) ≤ℤ v (step_place false n k)
+down_ordered v n k q rises le inside =
+    ordered v n (step_place false n q) (step_place false n k) rises (omega (arith, le, inside)) (omega (arith, le, inside))
+
 -- in the order of steps the differences fall
 falls_on : (above up : Bool) (l : Letter) (twin : Bool) (w : ℤ) (v : ℕ → ℤ) (n k q : ℕ) → Falls above up l twin w →
     ((i j : ℕ) → i < j → j < n → v i <ℤ v j) → k ≤ q → q < n → compares l twin (v (step_place up n k)) w ≡ true →
     compares l twin (v (step_place up n q)) w ≡ true → apart above (v (step_place up n q)) w ≤ℤ apart above (v (step_place up n k)) w
-falls_on above true l twin w v n k q falls rises le inside here there = falls (v k) (v q) (go (before_or k q (omega (arith, le)))) here there
-  where
-    go : (k < q) ⊎ (k ≡ q) → v k ≤ℤ v q
-    go (inl less) = let lt = rises k q less inside in omega (arith, ints, lt)
-    go (inr same) = let e : v k ≡ v q = ap v same in omega (arith, ints, e)
+falls_on above true l twin w v n k q falls rises le inside here there = falls (v k) (v q) (ordered v n k q rises le inside) here there
 falls_on above false l twin w v n k q falls rises le inside here there =
-    falls (v (step_place false n k)) (v (step_place false n q)) (go (before_or k q (omega (arith, le)))) here there
-  where
-    go : (k < q) ⊎ (k ≡ q) → v (step_place false n q) ≤ℤ v (step_place false n k)
-    go (inl less) =
-        let lt = rises (step_place false n q) (step_place false n k) (omega (arith, less, inside)) (omega (arith, less, inside)) in
-        omega (arith, ints, lt)
-    go (inr same) = let e : v (step_place false n k) ≡ v (step_place false n q) = ap (λ z. v (step_place false n z)) same in omega (arith, ints, e)
+    falls (v (step_place false n k)) (v (step_place false n q)) (down_ordered v n k q rises le inside) here there
 
 -- values that compare lie on one side
 abbrev Beside : Letter → ℤ → ℤ → Type 0
@@ -157,6 +160,46 @@ less_skipped twin w v h = apart_of (compares Less twin v w) (λ e. let p = besid
 
 greater_skipped : (twin : Bool) (w : ℤ) (v : ℤ) → v <ℤ w → compares Greater twin v w ≡ false
 greater_skipped twin w v h = apart_of (compares Greater twin v w) (λ e. let p = beside_is Greater twin v w e in absurd (omega (arith, ints, h, p)))
+
+more_than : (a b w : ℤ) → a ≤ℤ b → int_lt w a ≡ true → int_lt w b ≡ true
+more_than a b w le e = grind (arith, ints)
+
+more_or : (a b w : ℤ) → a ≤ℤ b → int_le w a ≡ true → int_le w b ≡ true
+more_or a b w le e = grind (arith, ints)
+
+less_than : (a b w : ℤ) → a ≤ℤ b → int_lt b w ≡ true → int_lt a w ≡ true
+less_than a b w le e = grind (arith, ints)
+
+less_or : (a b w : ℤ) → a ≤ℤ b → int_le b w ≡ true → int_le a w ≡ true
+less_or a b w le e = grind (arith, ints)
+
+greater_too : (twin : Bool) (a b w : ℤ) → a ≤ℤ b → compares Greater twin a w ≡ true → compares Greater twin b w ≡ true
+greater_too false a b w le e = sym (passes_is false false b w) ∙ more_than a b w le (passes_is false false a w ∙ e)
+greater_too true a b w le e = sym (passes_is false true b w) ∙ more_or a b w le (passes_is false true a w ∙ e)
+
+less_too : (twin : Bool) (a b w : ℤ) → a ≤ℤ b → compares Less twin b w ≡ true → compares Less twin a w ≡ true
+less_too false a b w le e = sym (passes_is true false a w) ∙ less_than a b w le (passes_is true false b w ∙ e)
+less_too true a b w le e = sym (passes_is true true a w) ∙ less_or a b w le (passes_is true true b w ∙ e)
+
+-- where those that compare come last, none does before one that doesn't
+pub none_before : (up : Bool) (l : Letter) (twin : Bool) (n : ℕ) (v : ℕ → ℤ) (w : ℤ) (k m : ℕ) → l ≡ cond up Greater Less →
+    ((i j : ℕ) → i < j → j < n → v i <ℤ v j) → k ≤ m → m < n → compares l twin (v (step_place up n m)) w ≡ false →
+    compares l twin (v (step_place up n k)) w ≡ false
+none_before true l twin n v w k m is rises le inside e =
+    ap (λ z. compares z twin (v k) w) is
+    ∙ apart_of (compares Greater twin (v k) w) (λ f. sym (greater_too twin (v k) (v m) w (ordered v n k m rises le inside) f)
+    ∙ ap (λ z. compares z twin (v m) w) (sym is) ∙ e)
+none_before false l twin n v w k m is rises le inside e =
+    ap (λ z. compares z twin (v (n - suc k)) w) is
+    ∙ apart_of (compares Less twin (v (n - suc k)) w)
+    (λ f. sym (less_too twin (v (n - suc m)) (v (n - suc k)) w (down_ordered v n k m rises le inside) f)
+    ∙ ap (λ z. compares z twin (v (n - suc m)) w) (sym is) ∙ e)
+
+-- what is skipped by halves: no more than the steps up to one at which nothing compares
+pub halves_more : (up : Bool) (l : Letter) (twin : Bool) (n : ℕ) (v : ℕ → ℤ) (w : ℤ) (m : ℕ) → l ≡ cond up Greater Less →
+    ((i j : ℕ) → i < j → j < n → v i <ℤ v j) → m < n → compares l twin (v (step_place up n m)) w ≡ false → (k : ℕ) → k < n → k < m + 1 →
+    compares l twin (v (step_place up n k)) w ≡ false
+halves_more up l twin n v w m is rises inside e k lt less = none_before up l twin n v w k m is rises (omega (arith, less)) inside e
 
 run_low : (a : ℤ) (n : ℕ) (v w : ℤ) (k : ℕ) → (a +ℤ pos k) ≡ v → pos (suc k) <ℤ (w -ℤ a) → v <ℤ w
 run_low a n v w k is h = omega (arith, ints, is, h)

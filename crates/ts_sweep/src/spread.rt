@@ -222,6 +222,32 @@ fn come_last<const UP: bool>(letter: Letter) -> bool
     }
 }
 
+/// So many first steps come to no value that compares with a next one, where those that compare come last: found by
+/// halves.
+#[inline(always)]
+fn halved<const UP: bool, V: Values>(letter: Letter, twin: bool, values: V, w: i64) -> usize
+    requires ok { V.ok values }
+    requires next { IsSmall w }
+    requires last { letter ≡ cond UP Greater Less }
+    ensures { (k : ℕ) → k < V.len values → k < result →
+        compares letter twin (V.value values (step_place UP (V.len values) k)) w ≡ false }
+{
+    let n = values.count();
+    let reach = reach_of(letter, twin, w);
+    let mut low = 0;
+    let mut high = n;
+    while low < high {
+        let mid = low + (high - low) / 2;
+        let i = step_place::<UP>(n, mid);
+        if is_reached(letter, twin, reach, values, i, w) {
+            high = mid;
+        } else {
+            low = mid + 1;
+        }
+    }
+    low
+}
+
 /// So many first steps come to no value that compares with a next one.
 #[inline(always)]
 fn first_step<const UP: bool, V: Values>(letter: Letter, twin: bool, values: V, w: i64) -> usize
@@ -230,13 +256,12 @@ fn first_step<const UP: bool, V: Values>(letter: Letter, twin: bool, values: V, 
     ensures { (k : ℕ) → k < V.len values → k < result →
         compares letter twin (V.value values (step_place UP (V.len values) k)) w ≡ false }
 {
-    let _on = twin;
     if !come_last::<UP>(letter) {
         return 0;
     }
     match values.run() {
         Some(run) => counted(beyond::<UP>(run, w)),
-        None => 0,
+        None => halved::<UP, V>(letter, twin, values, w),
     }
 }
 
