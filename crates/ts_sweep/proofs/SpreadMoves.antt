@@ -5,16 +5,14 @@ use Rattle.ts_automaton.specs.Body.{Move}
 use Rattle.ts_hull.specs.Hulls.{hull_of_both}
 use Rattle.ts_sweep.specs.declared.packed.Ends.{Ends}
 use Rattle.ts_sweep.specs.declared.packed.Name.{Name}
-use Rattle.ts_sweep.specs.declared.packed.Name.TheVariants.{C, E, R}
 use Rattle.ts_sweep.specs.Columns.{IsMoved, gives, hull_at}
 use Rattle.ts_sweep.specs.Lanes.{greater_of, no_lanes, some_lanes}
-use Rattle.ts_sweep.specs.Moves.{ends_by, replaced_all}
-use Rattle.ts_sweep.specs.Packed.{ArePacked, IsPacked, is_wide, name_ends, place, unpacked, with_ends_in}
+use Rattle.ts_sweep.specs.Packed.{ArePacked, IsPacked, is_wide, place, unpacked, with_ends_in}
 use Rattle.ts_sweep.specs.PackedLaws.{joined_is}
-use Rattle.ts_sweep.specs.PairMoves.{IsBegun, emission, pair_op, start_ends}
+use Rattle.ts_sweep.specs.PairMoves.{IsBegun, emission, pair_op}
 use Rattle.ts_sweep.specs.Sides.{Sides, BothEnds, as_read, kept_ends, seen_hull}
 use Rattle.ts_sweep.specs.Small.{IsSmall}
-use Rattle.ts_sweep.specs.Spreads.{spread_ends, top}
+use Rattle.ts_sweep.specs.Spreads.{spread_hull, top_of}
 use Rattle.ts_sweep.specs.Sweeps.{IsTakenIn, met_hull}
 use Rattle.ts_sweep.proofs.Kept.{kept_packed}
 use Rattle.ts_sweep.proofs.SpreadSteps.{spread_gift}
@@ -26,10 +24,8 @@ module _ {X : Type 0} (both : X → X → X) (nothing : X) (lanes : X → List �
     (count : ℕ) (v : ℕ → ℤ) (before : List X) (packed : ArePacked lanes nothing n count before) (sv : (i : ℕ) → i < count → IsSmall (v i))
     (begun : (i : ℕ) → i < count → some_lanes (lanes (get_or before i nothing)) ≡ true → IsBegun s true true (as_read s (lanes (get_or before i nothing))))
     (closing : X → ℤ → X)
-    (closing_is : (t : X) (w : ℤ) → closing t w ≡ cond (some_lanes (lanes t)) (replaced_all replaced t (ends_by true (name_ends (as_read s (lanes t)) C)
-    (name_ends (as_read s (lanes t)) E) (start_ends true) (start_ends false)
-    (spread_ends greatest (λ above bounded. top above bounded l twin count (λ k. some_lanes (lanes (get_or before k nothing)))
-    (λ k. name_ends (as_read s (lanes (get_or before k nothing))) R) v w) (name_ends (as_read s (lanes t)) R)))) t) where
+    (closing_is : (t : X) (w : ℤ) →
+    closing t w ≡ cond (some_lanes (lanes t)) (spread_hull lanes s replaced greatest (top_of lanes s nothing before l twin count v w) t) t) where
   given : (m : Move) → m.to ≡ emission true (pair_op greatest) true → (w : ℤ) → IsSmall w →
       IsPacked n (lanes (closing (met_hull both nothing l twin (λ h v. h) before v w) w))
       × (unpacked (lanes (closing (met_hull both nothing l twin (λ h v. h) before v w) w)) ≡ seen_hull s

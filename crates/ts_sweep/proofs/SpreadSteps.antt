@@ -25,7 +25,7 @@ use Rattle.ts_sweep.specs.PackedLaws.{greater_ends, joined_is, joined_packed, no
 use Rattle.ts_sweep.specs.PairMoves.{IsBegun, emission, found_ends, pair_op, start_ends}
 use Rattle.ts_sweep.specs.Sides.{Sides, BothEnds, UpperEnds, LowerEnds, as_read, kept_ends, seen_hull}
 use Rattle.ts_sweep.specs.Small.{IsSmall}
-use Rattle.ts_sweep.specs.Spreads.{apart, end_of, lesser, spread_ends, top}
+use Rattle.ts_sweep.specs.Spreads.{apart, end_of, lesser, spread_ends, spread_hull, top, top_of}
 use Rattle.ts_sweep.specs.Sweeps.{met_hull, total}
 use Rattle.ts_sweep.specs.Trees.{folded_by, tree_value}
 use Rattle.ts_sweep.proofs.PairLaws.{found_kept}
@@ -361,10 +361,8 @@ pub spread_gift : {X : Type 0} (both : X → X → X) (nothing : X) (lanes : X �
     (w : ℤ) (count : ℕ) → m.to ≡ emission true (pair_op greatest) true → IsSmall w → ArePacked lanes nothing n count before →
     ((i : ℕ) → i < count → IsSmall (v i)) →
     ((i : ℕ) → i < count → some_lanes (lanes (get_or before i nothing)) ≡ true → IsBegun s true true (as_read s (lanes (get_or before i nothing)))) →
-    (closed : X → X) → ((t : X) → closed t ≡ cond (some_lanes (lanes t)) (replaced_all replaced t (ends_by true (name_ends (as_read s (lanes t)) C)
-    (name_ends (as_read s (lanes t)) E) (start_ends true) (start_ends false)
-    (spread_ends greatest (λ above bounded. top above bounded l twin count (λ k. some_lanes (lanes (get_or before k nothing)))
-    (λ k. name_ends (as_read s (lanes (get_or before k nothing))) R) v w) (name_ends (as_read s (lanes t)) R)))) t) →
+    (closed : X → X) → ((t : X) →
+    closed t ≡ cond (some_lanes (lanes t)) (spread_hull lanes s replaced greatest (top_of lanes s nothing before l twin count v w) t) t) →
     IsPacked n (lanes (closed (met_hull both nothing l twin (λ h v. h) before v w)))
     × (unpacked (lanes (closed (met_hull both nothing l twin (λ h v. h) before v w))) ≡ seen_hull s (gives m l twin count v (hull_at lanes nothing before) w))
 spread_gift both nothing lanes n both_lanes none_lanes big wide BothEnds replaced replaced_lanes alone m greatest l twin v before w count made sw packed sv

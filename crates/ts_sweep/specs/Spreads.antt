@@ -1,11 +1,16 @@
 -- Moves that join R with the difference of both cells.
-use Rattle.std.specs.Prelude.{◌≡◌, ◌≤◌, ◌≤ℤ◌, ◌+ℤ◌, ◌-ℤ◌, ℕ, ℤ, pos, Bool, true, false, cond}
+use Rattle.std.specs.Prelude.{◌≡◌, ◌≤◌, ◌≤ℤ◌, ◌+ℤ◌, ◌-ℤ◌, ℕ, ℤ, pos, Bool, true, false, cond, List, get_or}
 use Rattle.std.specs.Int.{int_max, int_min}
 use Rattle.ts_base.specs.declared.letter.Letter.{Letter}
 use Rattle.ts_hull.specs.Sweeps.{compares}
 use Rattle.ts_sweep.specs.declared.packed.Ends.{Ends}
-use Rattle.ts_sweep.specs.Lanes.{least}
-use Rattle.ts_sweep.specs.Packed.{ends}
+use Rattle.ts_sweep.specs.declared.packed.Name.{Name}
+use Rattle.ts_sweep.specs.declared.packed.Name.TheVariants.{C, E, R}
+use Rattle.ts_sweep.specs.Lanes.{least, some_lanes}
+use Rattle.ts_sweep.specs.Moves.{ends_by, replaced_all}
+use Rattle.ts_sweep.specs.Packed.{ends, name_ends}
+use Rattle.ts_sweep.specs.PairMoves.{start_ends}
+use Rattle.ts_sweep.specs.Sides.{Sides, as_read}
 use Rattle.ts_sweep.specs.Sweeps.{total}
 
 -- an end of a register
@@ -32,6 +37,23 @@ top above bounded l twin n some r v w =
 abbrev pub spread_ends : Bool → (Bool → Bool → ℤ) → Ends → Ends
 spread_ends true t r = ends (int_min (t false true) r.below) (int_max r.above (t true false))
 spread_ends false t r = ends (int_max r.below (t false false)) (int_min (t true true) r.above)
+
+-- what a hull gives, if R is asked for the lesser of its end and of the difference
+abbrev pub lesser_of : {X : Type 0} → (X → List ℤ) → Sides → Bool → Bool → X → ℤ → ℤ → ℤ
+lesser_of lanes s above bounded h v w =
+    lesser above bounded (some_lanes (lanes h)) (name_ends (as_read s (lanes h)) R) v w
+
+-- the greatest that n hulls give
+abbrev pub top_of : {X : Type 0} → (X → List ℤ) → Sides → X → List X → Letter → Bool → ℕ → (ℕ → ℤ) → ℤ → Bool → Bool → ℤ
+top_of lanes s none hulls l twin n v w above bounded =
+    top above bounded l twin n (λ i. some_lanes (lanes (get_or hulls i none)))
+    (λ i. name_ends (as_read s (lanes (get_or hulls i none))) R) v w
+
+-- what becomes of joined hulls: D and F begin anew
+abbrev pub spread_hull : {X : Type 0} → (X → List ℤ) → Sides → (X → Name → Ends → X) → Bool → (Bool → Bool → ℤ) → X → X
+spread_hull lanes s replaced greatest tops h =
+    replaced_all replaced h (ends_by true (name_ends (as_read s (lanes h)) C) (name_ends (as_read s (lanes h)) E)
+    (start_ends true) (start_ends false) (spread_ends greatest tops (name_ends (as_read s (lanes h)) R)))
 
 -- how far w lies beyond the first of n values from a on, or below their end
 abbrev pub beyond : Bool → ℤ → ℕ → ℤ → ℤ

@@ -10,14 +10,21 @@ ghost use Rattle.ts_automaton.specs.Body.{Move};
 ghost use Rattle.ts_base.specs.declared.letter.Letter.TheVariants.{Equal, Greater, Less};
 ghost use Rattle.ts_hull.specs.Sweeps.{compares};
 ghost use Rattle.ts_sweep.specs.Columns.{IsMoved};
-ghost use Rattle.ts_sweep.specs.declared.packed.Name.TheVariants.{C as NameC, E as NameE, R as NameR};
 ghost use Rattle.ts_sweep.specs.Lanes.{some_lanes};
-ghost use Rattle.ts_sweep.specs.Moves.{ends_by, replaced_all};
-ghost use Rattle.ts_sweep.specs.Packed.{ArePacked, is_wide, name_ends};
-ghost use Rattle.ts_sweep.specs.PairMoves.{IsBegun, emission, pair_op, reach_by, start_ends};
+ghost use Rattle.ts_sweep.specs.Packed.{ArePacked, is_wide};
+ghost use Rattle.ts_sweep.specs.PairMoves.{IsBegun, emission, pair_op, reach_by};
 ghost use Rattle.ts_sweep.specs.Sides.{as_read};
 ghost use Rattle.ts_sweep.specs.Small.{IsCell, IsSmall};
-ghost use Rattle.ts_sweep.specs.Spreads.{Falls, apart, beyond, end_of, lesser, spread_ends, top};
+ghost use Rattle.ts_sweep.specs.Spreads.{
+  Falls,
+  apart,
+  beyond,
+  end_of,
+  lesser_of,
+  spread_ends,
+  spread_hull,
+  top_of,
+};
 ghost use Rattle.ts_sweep.specs.Sweeps.{step_place};
 
 use crate::column::Dense;
@@ -71,8 +78,7 @@ fn lesser<const ABOVE: bool, H: Packed>(bounded: bool, h: H, v: i64, w: i64) -> 
     requires registers { 6 ≤ H.count }
     requires value { IsSmall v }
     requires next { IsSmall w }
-    ensures { result ≡ lesser ABOVE bounded (some_lanes (H.lanes h))
-        (name_ends (as_read H.sides (H.lanes h)) NameR) v w }
+    ensures { result ≡ lesser_of H.lanes H.sides ABOVE bounded h v w }
 {
     if !h.is_some() {
         return i64::MIN;
@@ -147,8 +153,7 @@ fn given_at<const ABOVE: bool, H: Packed, V: Values>(
     requires before { V.len values ≤ length before.now }
     requires inside { i < V.len values }
     requires next { IsSmall w }
-    ensures { result ≡ lesser ABOVE bounded (some_lanes (H.lanes (get_or before.now i H.none)))
-        (name_ends (as_read H.sides (H.lanes (get_or before.now i H.none))) NameR) (V.value values i) w }
+    ensures { result ≡ lesser_of H.lanes H.sides ABOVE bounded (get_or before.now i H.none) (V.value values i) w }
 {
     let h = hull_of(before, i);
     let v = values.at(i);
@@ -175,8 +180,8 @@ fn with_given<const ABOVE: bool, H: Packed, V: Values>(
     requires inside { i < V.len values }
     requires next { IsSmall w }
     ensures { result ≡ cond (compares letter twin (V.value values i) w)
-        (int_max found (lesser ABOVE bounded (some_lanes (H.lanes (get_or before.now i H.none)))
-        (name_ends (as_read H.sides (H.lanes (get_or before.now i H.none))) NameR) (V.value values i) w)) found }
+        (int_max found (lesser_of H.lanes H.sides ABOVE bounded (get_or before.now i H.none) (V.value values i) w))
+        found }
 {
     if is_reached(letter, twin, reach, values, i, w) {
         found.max(given_at::<ABOVE, H, V>(values, before, bounded, i, w))
@@ -281,9 +286,8 @@ fn walked<const ABOVE: bool, const UP: bool, H: Packed, V: Values>(
     requires before { V.len values ≤ length before.now }
     requires falls { Falls ABOVE UP letter twin w }
     requires next { IsSmall w }
-    ensures { result ≡ int_min (top ABOVE bounded letter twin (V.len values)
-        (λ i. some_lanes (H.lanes (get_or before.now i H.none)))
-        (λ i. name_ends (as_read H.sides (H.lanes (get_or before.now i H.none))) NameR) (V.value values) w) most }
+    ensures { result ≡ int_min (top_of H.lanes H.sides H.none before.now letter twin (V.len values) (V.value values) w
+        ABOVE bounded) most }
 {
     let n = values.count();
     let reach = reach_of(letter, twin, w);
@@ -314,9 +318,8 @@ fn top_of<const ABOVE: bool, H: Packed, V: Values>(
     requires ok { V.ok values }
     requires before { V.len values ≤ length before.now }
     requires next { IsSmall w }
-    ensures { result ≡ int_min (top ABOVE bounded letter twin (V.len values)
-        (λ i. some_lanes (H.lanes (get_or before.now i H.none)))
-        (λ i. name_ends (as_read H.sides (H.lanes (get_or before.now i H.none))) NameR) (V.value values) w) most }
+    ensures { result ≡ int_min (top_of H.lanes H.sides H.none before.now letter twin (V.len values) (V.value values) w
+        ABOVE bounded) most }
 {
     if (letter == Letter::Less) == ABOVE {
         walked::<ABOVE, true, H, V>(letter, twin, values, before, bounded, most, w)
@@ -339,9 +342,8 @@ fn each_end<const ABOVE: bool, H: Packed, V: Values>(
     requires ok { V.ok values }
     requires before { V.len values ≤ length before.now }
     requires next { IsSmall w }
-    ensures { result ≡ int_max end (top ABOVE false letter twin (V.len values)
-        (λ i. some_lanes (H.lanes (get_or before.now i H.none)))
-        (λ i. name_ends (as_read H.sides (H.lanes (get_or before.now i H.none))) NameR) (V.value values) w) }
+    ensures { result ≡ int_max end (top_of H.lanes H.sides H.none before.now letter twin (V.len values)
+        (V.value values) w ABOVE false) }
 {
     end.max(top_of::<ABOVE, H, V>(letter, twin, values, before, false, i64::MAX, w))
 }
@@ -361,9 +363,8 @@ fn spread_ends<H: Packed, V: Values>(
     requires ok { V.ok values }
     requires before { V.len values ≤ length before.now }
     requires next { IsSmall w }
-    ensures { result ≡ spread_ends greatest (λ above bounded. top above bounded letter twin (V.len values)
-        (λ i. some_lanes (H.lanes (get_or before.now i H.none)))
-        (λ i. name_ends (as_read H.sides (H.lanes (get_or before.now i H.none))) NameR) (V.value values) w) r }
+    ensures { result ≡ spread_ends greatest
+        (top_of H.lanes H.sides H.none before.now letter twin (V.len values) (V.value values) w) r }
 {
     if greatest {
         Ends {
@@ -393,13 +394,8 @@ fn spread_hull<H: Packed, V: Values>(
     requires ok { V.ok values }
     requires before { V.len values ≤ length before.now }
     requires next { IsSmall w }
-    ensures { result ≡ replaced_all H.replaced h (ends_by true
-        (name_ends (as_read H.sides (H.lanes h)) NameC) (name_ends (as_read H.sides (H.lanes h)) NameE)
-        (start_ends true) (start_ends false)
-        (spread_ends greatest (λ above bounded. top above bounded letter twin (V.len values)
-        (λ i. some_lanes (H.lanes (get_or before.now i H.none)))
-        (λ i. name_ends (as_read H.sides (H.lanes (get_or before.now i H.none))) NameR) (V.value values) w)
-        (name_ends (as_read H.sides (H.lanes h)) NameR))) }
+    ensures { result ≡ spread_hull H.lanes H.sides H.replaced greatest
+        (top_of H.lanes H.sides H.none before.now letter twin (V.len values) (V.value values) w) h }
 {
     let c = h.ends(Name::C);
     let e = h.ends(Name::E);
@@ -415,14 +411,10 @@ fn spread_hull<H: Packed, V: Values>(
 }
 
 impl<'a, H: Packed, V: Values> Fronts<H> for Spread<'a, H, V> {
-    ghost use Rattle.std.specs.Prelude.{cond, get_or, length};
-    ghost use Rattle.ts_sweep.specs.declared.packed.Name.TheVariants.{C as NameC, E as NameE, R as NameR};
+    ghost use Rattle.std.specs.Prelude.{cond, length};
     ghost use Rattle.ts_sweep.specs.Lanes.{some_lanes};
-    ghost use Rattle.ts_sweep.specs.Moves.{ends_by, replaced_all};
-    ghost use Rattle.ts_sweep.specs.Packed.{IsPacked, name_ends};
-    ghost use Rattle.ts_sweep.specs.PairMoves.{start_ends};
-    ghost use Rattle.ts_sweep.specs.Sides.{as_read};
-    ghost use Rattle.ts_sweep.specs.Spreads.{spread_ends, top};
+    ghost use Rattle.ts_sweep.specs.Packed.{IsPacked};
+    ghost use Rattle.ts_sweep.specs.Spreads.{spread_hull, top_of};
     ghost use Rattle.ts_sweep.specs.SpreadLaws.{closable_some, both_closable, none_closes};
 
     ghost fit = { λ k h. IsPacked H.count (H.lanes h) × (6 ≤ H.count) × V.ok k.values
@@ -433,13 +425,8 @@ impl<'a, H: Packed, V: Values> Fronts<H> for Spread<'a, H, V> {
 
     ghost front = { λ k h v. h };
 
-    ghost closing = { λ k h w. cond (some_lanes (H.lanes h)) (replaced_all H.replaced h (ends_by true
-        (name_ends (as_read H.sides (H.lanes h)) NameC) (name_ends (as_read H.sides (H.lanes h)) NameE)
-        (start_ends true) (start_ends false)
-        (spread_ends k.greatest (λ above bounded. top above bounded k.letter k.twin (V.len k.values)
-        (λ i. some_lanes (H.lanes (get_or k.before.now i H.none)))
-        (λ i. name_ends (as_read H.sides (H.lanes (get_or k.before.now i H.none))) NameR) (V.value k.values) w)
-        (name_ends (as_read H.sides (H.lanes h)) NameR)))) h };
+    ghost closing = { λ k h w. cond (some_lanes (H.lanes h)) (spread_hull H.lanes H.sides H.replaced k.greatest
+        (top_of H.lanes H.sides H.none k.before.now k.letter k.twin (V.len k.values) (V.value k.values) w) h) h };
 
     ghost closes_none = { λ k w. none_closes H.lanes H.count H.none H.none_lanes _ };
 

@@ -1,23 +1,16 @@
 use mir.Val.{SFits}
-use Rattle.std.proofs.Common.{◌≡◌, Bool, true, false, ℤ, get_or, rules, w64, to_z, of_z, sym, ap, ◌∙◌}
+use Rattle.std.proofs.Common.{◌≡◌, Bool, true, false, ℤ, rules, w64, to_z, of_z, sym, ap, ◌∙◌}
 use Rattle.std.specs.Int.{int_max, int_min}
 use Rattle.std.proofs.lemmas.Int.{to_z-of_z}
-use Rattle.ts_sweep.specs.declared.packed.Name.TheVariants.{R}
-use Rattle.ts_sweep.specs.Lanes.{some_lanes}
-use Rattle.ts_sweep.specs.Packed.{name_ends}
 use Rattle.ts_sweep.specs.PackedLaws.{same_ends}
-use Rattle.ts_sweep.specs.Sides.{as_read}
-use Rattle.ts_sweep.specs.Spreads.{spread_ends, top}
+use Rattle.ts_sweep.specs.Spreads.{spread_ends, top_of}
 use Rattle.ts_sweep.proofs.RunSteps.{as_passed}
 use Rattle.ts_sweep.proofs.spread.spread_ends.Goals as goal
 
 pub returns-then-greatest : goal.returns-then-greatest
 returns-then-greatest g c =
-    let lanes = g.H.Packed.lanes in
-    let s = g.H.Packed.sides in
-    let tops : ℤ → Bool → Bool → ℤ = λ w above bounded. top above bounded c.args.letter c.args.twin (g.V.Values.len c.args.values)
-    (λ i. some_lanes (lanes (get_or c.args.before.now i g.H.Hull.none)))
-    (λ i. name_ends (as_read s (lanes (get_or c.args.before.now i g.H.Hull.none))) R) (g.V.Values.value c.args.values) w in
+    let tops : ℤ → Bool → Bool → ℤ = top_of g.H.Packed.lanes g.H.Packed.sides g.H.Hull.none c.args.before.now c.args.letter c.args.twin
+    (g.V.Values.len c.args.values) (g.V.Values.value c.args.values) in
     let low : SFits w64 c.args.r.below = search rules in
     let high : SFits w64 c.args.r.above = search rules in
     same_ends _ _ _ _
@@ -31,11 +24,8 @@ returns-then-greatest g c =
 
 pub returns-else-greatest : goal.returns-else-greatest
 returns-else-greatest g c =
-    let lanes = g.H.Packed.lanes in
-    let s = g.H.Packed.sides in
-    let tops : ℤ → Bool → Bool → ℤ = λ w above bounded. top above bounded c.args.letter c.args.twin (g.V.Values.len c.args.values)
-    (λ i. some_lanes (lanes (get_or c.args.before.now i g.H.Hull.none)))
-    (λ i. name_ends (as_read s (lanes (get_or c.args.before.now i g.H.Hull.none))) R) (g.V.Values.value c.args.values) w in
+    let tops : ℤ → Bool → Bool → ℤ = top_of g.H.Packed.lanes g.H.Packed.sides g.H.Hull.none c.args.before.now c.args.letter c.args.twin
+    (g.V.Values.len c.args.values) (g.V.Values.value c.args.values) in
     let low : SFits w64 c.args.r.below = search rules in
     let high : SFits w64 c.args.r.above = search rules in
     let each = c.each_end-else-greatest in

@@ -1,12 +1,11 @@
-use Rattle.std.proofs.Common.{◌≡◌, Bool, true, false, ℤ, get_or, ap, ◌∙◌}
+use Rattle.std.proofs.Common.{◌≡◌, Bool, true, false, ℤ, ap, ◌∙◌}
 use Rattle.ts_automaton.specs.Registers.{EachOf, each}
 use Rattle.ts_sweep.specs.declared.packed.Ends.{Ends}
 use Rattle.ts_sweep.specs.declared.packed.Name.TheVariants.{C, E, D, F, R}
-use Rattle.ts_sweep.specs.Lanes.{some_lanes}
 use Rattle.ts_sweep.specs.Packed.{name_ends}
 use Rattle.ts_sweep.specs.PairMoves.{start_ends}
 use Rattle.ts_sweep.specs.Sides.{as_read}
-use Rattle.ts_sweep.specs.Spreads.{spread_ends, top}
+use Rattle.ts_sweep.specs.Spreads.{spread_ends, top_of}
 use Rattle.ts_sweep.proofs.Replaced.{same_each, same_replaced}
 use Rattle.ts_sweep.proofs.RunSteps.{as_passed}
 use Rattle.ts_sweep.proofs.spread.spread_hull.Goals as goal
@@ -15,9 +14,8 @@ pub returns : goal.returns
 returns g c =
     let replaced = g.H.Packed.replaced in
     let xs = as_read g.H.Packed.sides (g.H.Packed.lanes c.args.h) in
-    let tops : ℤ → Bool → Bool → ℤ = λ w above bounded. top above bounded c.args.letter c.args.twin (g.V.Values.len c.args.values)
-    (λ i. some_lanes (g.H.Packed.lanes (get_or c.args.before.now i g.H.Hull.none)))
-    (λ i. name_ends (as_read g.H.Packed.sides (g.H.Packed.lanes (get_or c.args.before.now i g.H.Hull.none))) R) (g.V.Values.value c.args.values) w in
+    let tops : ℤ → Bool → Bool → ℤ = top_of g.H.Packed.lanes g.H.Packed.sides g.H.Hull.none c.args.before.now c.args.letter c.args.twin
+    (g.V.Values.len c.args.values) (g.V.Values.value c.args.values) in
     let e : EachOf Ends = each c.ends-c.result c.ends-e.result c.start_ends-d.result c.start_ends-f.result c.spread_ends-r.result in
     let is = c.with-5.ensures ∙ ap (λ z. replaced z R e.r) (c.with-4.ensures ∙ ap (λ z. replaced z F e.f)
     (c.with-3.ensures ∙ ap (λ z. replaced z D e.d) (c.with-2.ensures ∙ ap (λ z. replaced z E e.e) c.with.ensures))) in
