@@ -36,27 +36,28 @@ use ts_sweep::swept::take_swept;
 #[derive(Clone, Copy)]
 struct Planned<'a> {
     turn: &'a Turn,
-    shape: Shape,
+    shape: &'a Shape,
     on: On,
 }
 
 /// The move of a state on a letter, as it is planned.
+#[inline(always)]
 fn planned_move<'a, const N: usize>(
     a: &'a Automaton,
     q: u8,
     letter: Letter,
     twin: bool,
-    shape: Shape,
+    shape: &'a Shape,
 ) -> Planned<'a>
     requires width { a.now.wide ≡ has_wide N }
     requires state { q < length a.now.states }
     requires alone { letter ≡ Equal → twin ≡ false }
-    requires shape { IsShapeOf a.now.wide shape (cut_at a.now q letter) }
+    requires shape { IsShapeOf a.now.wide shape.now (cut_at a.now q letter) }
     ensures value { move_of result.turn.now ≡ move_at a.now q letter }
     ensures leads { result.turn.now.next < length a.now.states }
     ensures rests { rests is_zero (has_wide N) (move_of result.turn.now).to ≡ true }
     ensures suits { IsMoveFor (sides N) (move_of result.turn.now) }
-    ensures shape { IsShapeOf (has_wide N) result.shape
+    ensures shape { IsShapeOf (has_wide N) result.shape.now
         (cut_of (here_move (is_equal result.on.letter) (move_of result.turn.now))) }
     ensures letter { result.on.letter ≡ letter }
     ensures twin { result.on.twin ≡ twin }
@@ -105,13 +106,13 @@ fn take_turn<const N: usize>(m: Planned<'_>, t: &Between<'_, N>, next: &mut [Pac
     requires covered { IsCovered N t.now }
     requires width { rests is_zero (has_wide N) (move_of m.turn.now).to ≡ true }
     requires suits { IsMoveFor (sides N) (move_of m.turn.now) }
-    requires shape { IsShapeOf (has_wide N) m.shape
+    requires shape { IsShapeOf (has_wide N) m.shape.now
         (cut_of (here_move (is_equal m.on.letter) (move_of m.turn.now))) }
     requires next_packed { IsColumn N (count_in t.now.next_values) next.old }
     ensures packed { IsColumn N (count_in t.now.next_values) next.new }
     ensures moved { HasMoved N t.now m.entry.on (move_of m.entry.turn.now) next.old next.new }
 {
-    if take_shape(m.shape, m.on, t, next) {
+    if take_shape(*m.shape, m.on, t, next) {
         return;
     }
     if take_tree(m, t, next) {
@@ -131,7 +132,7 @@ fn take_at<const N: usize>(
     requires covered { IsCovered N t.now }
     requires width { rests is_zero (has_wide N) (move_of m.turn.now).to ≡ true }
     requires suits { IsMoveFor (sides N) (move_of m.turn.now) }
-    requires shape { IsShapeOf (has_wide N) m.shape
+    requires shape { IsShapeOf (has_wide N) m.shape.now
         (cut_of (here_move (is_equal m.on.letter) (move_of m.turn.now))) }
     requires inside { m.turn.now.next * stride + count_in t.now.next_values ≤ length hulls.old }
     requires packed { IsColumn N (count_in t.now.next_values) (slice_range hulls.old (m.turn.now.next * stride)
@@ -149,7 +150,7 @@ fn take_move<const N: usize>(m: Planned<'_>, t: &Between<'_, N>, next: &mut Pack
     requires covered { IsCovered N t.now }
     requires width { rests is_zero (has_wide N) (move_of m.turn.now).to ≡ true }
     requires suits { IsMoveFor (sides N) (move_of m.turn.now) }
-    requires shape { IsShapeOf (has_wide N) m.shape
+    requires shape { IsShapeOf (has_wide N) m.shape.now
         (cut_of (here_move (is_equal m.on.letter) (move_of m.turn.now))) }
     requires leads { m.turn.now.next < length next.old }
     requires row { IsRow N (length next.old) (count_in t.now.next_values) next.old }
@@ -170,11 +171,11 @@ fn take_two<const N: usize>(
     requires covered { IsCovered N t.now }
     requires width { rests is_zero (has_wide N) (move_of m.turn.now).to ≡ true }
     requires suits { IsMoveFor (sides N) (move_of m.turn.now) }
-    requires shape { IsShapeOf (has_wide N) m.shape
+    requires shape { IsShapeOf (has_wide N) m.shape.now
         (cut_of (here_move (is_equal m.on.letter) (move_of m.turn.now))) }
     requires other_width { rests is_zero (has_wide N) (move_of k.turn.now).to ≡ true }
     requires other_suits { IsMoveFor (sides N) (move_of k.turn.now) }
-    requires other_shape { IsShapeOf (has_wide N) k.shape
+    requires other_shape { IsShapeOf (has_wide N) k.shape.now
         (cut_of (here_move (is_equal k.on.letter) (move_of k.turn.now))) }
     requires leads { m.turn.now.next < length next.old }
     requires other_leads { k.turn.now.next < length next.old }
@@ -193,13 +194,13 @@ fn take_two<const N: usize>(
 fn take_moves<const N: usize>(
     a: &Automaton,
     q: u8,
-    plan: StatePlan,
+    plan: &StatePlan,
     t: &Between<'_, N>,
     next: &mut PackedRow<N>,
 )
     requires width { a.now.wide ≡ has_wide N }
     requires state { q < length a.now.states }
-    requires plan { IsStatePlan a.now q plan }
+    requires plan { IsStatePlan a.now q plan.now }
     requires covered { IsCovered N t.now }
     requires states { length next.old ≡ length a.now.states }
     requires row { IsRow N (length next.old) (count_in t.now.next_values) next.old }
@@ -211,19 +212,19 @@ fn take_moves<const N: usize>(
 {
     match plan.equals {
         Equals::WithLess => {
-            let less = planned_move::<N>(a, q, Letter::Less, true, plan.less);
-            let greater = planned_move::<N>(a, q, Letter::Greater, false, plan.greater);
+            let less = planned_move::<N>(a, q, Letter::Less, true, &plan.less);
+            let greater = planned_move::<N>(a, q, Letter::Greater, false, &plan.greater);
             take_two(less, greater, t, next);
         }
         Equals::WithGreater => {
-            let less = planned_move::<N>(a, q, Letter::Less, false, plan.less);
-            let greater = planned_move::<N>(a, q, Letter::Greater, true, plan.greater);
+            let less = planned_move::<N>(a, q, Letter::Less, false, &plan.less);
+            let greater = planned_move::<N>(a, q, Letter::Greater, true, &plan.greater);
             take_two(less, greater, t, next);
         }
         Equals::Alone => {
-            let less = planned_move::<N>(a, q, Letter::Less, false, plan.less);
-            let equal = planned_move::<N>(a, q, Letter::Equal, false, plan.equal);
-            let greater = planned_move::<N>(a, q, Letter::Greater, false, plan.greater);
+            let less = planned_move::<N>(a, q, Letter::Less, false, &plan.less);
+            let equal = planned_move::<N>(a, q, Letter::Equal, false, &plan.equal);
+            let greater = planned_move::<N>(a, q, Letter::Greater, false, &plan.greater);
             take_two(less, equal, t, next);
             take_move(greater, t, next);
         }
@@ -234,7 +235,7 @@ fn take_moves<const N: usize>(
 fn take_state<const N: usize>(
     a: &Automaton,
     q: u8,
-    plan: StatePlan,
+    plan: &StatePlan,
     values: Cell<'_>,
     column: &[PackedHull<N>],
     next_values: Cell<'_>,
@@ -244,7 +245,7 @@ fn take_state<const N: usize>(
     requires registers { 6 ≤ lane_count N }
     requires lanes { N ≤ 64 }
     requires state { q < length a.now.states }
-    requires plan { IsStatePlan a.now q plan }
+    requires plan { IsStatePlan a.now q plan.now }
     requires column { IsColumn N (count_in values) column.now }
     requires states { length next.old ≡ length a.now.states }
     requires row { IsRow N (length next.old) (count_in next_values) next.old }
@@ -292,7 +293,7 @@ pub fn next_row<const N: usize>(
         take_state(
             a,
             q,
-            plan.states[q as usize],
+            &plan.states[q as usize],
             values,
             before.column(q),
             next_values,

@@ -23,5 +23,5 @@ returns-clause-suits g c =
 pub returns-clause-shape : goal.returns-clause-shape
 returns-clause-shape g c =
     let equal = is_equal c.args.letter in
-    subst (λ w. IsShapeOf w c.args.shape (cut_of (here_move equal (move_of c.turn.result.now)))) c.requires.width
-    (same_shape c.args.a.now.wide c.args.shape _ _ (ap (here_move equal) (sym c.turn.ensures.value)) c.requires.shape)
+    subst (λ w. IsShapeOf w c.args.shape.now (cut_of (here_move equal (move_of c.turn.result.now)))) c.requires.width
+    (same_shape c.args.a.now.wide c.args.shape.now _ _ (ap (here_move equal) (sym c.turn.ensures.value)) c.requires.shape)
