@@ -125,7 +125,7 @@ fn bound<const N: usize>(all: &PackedHull<N>, turned: &PackedHull<N>, register: 
 }
 
 /// The cover of the hulls of a state.
-#[inline(never)]
+#[inline(always)]
 pub fn cover_of<const N: usize, C: Column<PackedHull<N>>>(
     from: C,
     row: &[C::Item],
