@@ -25,10 +25,11 @@ use Rattle.ts_sweep.specs.FrontLaws.{never_added, number_within, plain_register}
 use Rattle.ts_sweep.specs.Fronts.{ArePlain}
 use Rattle.ts_sweep.specs.Lanes.{least}
 use Rattle.ts_sweep.specs.OperatorLaws.{sum_within, greater_within, less_within, lesser_within}
+use Rattle.ts_sweep.specs.Operators.{crossed, sum_of_ends}
 use Rattle.ts_sweep.specs.Packed.{AreSome, AreWithin, IsPackOf, IsSomeEnds, IsWithin, register_span}
 use Rattle.ts_meet.specs.declared.gluing.Gluing.{Gluing}
-use Rattle.ts_meet.specs.Joints.{IsFoldPlain, IsOpenPlain, IsPlain, between_expression, both_expression, expression, folds_held, is_add, joined_expression, leaves_out, part_by}
-use Rattle.ts_meet.specs.SideLaws.{cell_within}
+use Rattle.ts_meet.specs.Joints.{IsFoldPlain, IsHeldPlain, IsOpenPlain, IsPlain, between_expression, both_expression, expression, folds_held, held_ends, is_add, joined_expression, leaves_out, open_ends, part_by}
+use Rattle.ts_meet.specs.SideLaws.{cell_within, far_infinity, near_small}
 use Rattle.ts_meet.specs.Sides.{AreSomeEnds, ArePackOf, TakesAny, TakesPlain, plain_by, plain_values}
 
 -- registers alone stand in it
@@ -175,17 +176,19 @@ more_within i x few h = let a = h.0 in let b = h.1 in (omega (arith, ints, few, 
 are_within : (i : ℕ) (e : Ends) → i ≤ 5 → AreWithin i e → AreWithin 5 e
 are_within i e few h = (more_within i e.below few h.0, more_within i e.above few h.1)
 
-both_within : (o : Operator) (i j : ℕ) (a b : Ends) → AreWithin i a → AreWithin j b → AreWithin (i + j) (plain_by o a b)
-both_within (Fold Add) i j a b p q = sum_within i j a b p q
-both_within (Fold Max) i j a b p q = greater_within i j a b p q
-both_within (Fold Min) i j a b p q = lesser_within i j a b p q
-both_within Sub i j a b p q = less_within i j a b p q
+both_within : (o : Operator) (i j : ℕ) (a b : Ends) → i ≤ 5 → AreWithin i a → AreWithin j b → AreWithin (i + j) (plain_by o a b)
+both_within (Fold Add) i j a b few p q = sum_within i j a b p q
+both_within (Fold Max) i j a b few p q = greater_within i j a b p q
+both_within (Fold Min) i j a b few p q = lesser_within i j a b p q
+both_within Sub i j a b few p q =
+    subst (AreWithin (i + j)) (sym (ap (λ z. cond z a (sum_of_ends a (crossed b))) (near_small a (are_within i a few p)))) (less_within i j a b p q)
 
 both_taken : (o : Operator) (i j : ℕ) (a b : Ends) → i ≤ 5 → j ≤ 5 → AreWithin i a → AreWithin j b → TakesPlain o a b
 both_taken (Fold Add) i j a b few less p q = (are_within i a few p, are_within j b less q)
 both_taken (Fold Max) i j a b few less p q = tt
 both_taken (Fold Min) i j a b few less p q = tt
-both_taken Sub i j a b few less p q = (are_within i a few p, are_within j b less q)
+both_taken Sub i j a b few less p q =
+    (λ e. are_within i a few p, λ e. never_added (sym e ∙ near_small a (are_within i a few p)), are_within j b less q)
 
 -- how many registers and numbers stand in it; that no operand has more than five, where each register stands alone
 abbrev words : Glue → ℕ
@@ -319,6 +322,14 @@ small_second Max x y e p q =
 small_second Min x y e p q =
     ((max_second _ _ _ q.0.0, max_below _ _ _ p.0 q.0.1), (min_above _ _ _ p.1 q.1.0, min_second _ _ _ q.1.1))
 
+held_some : (p : Part) (s : EachOf Ends) → AreSomeEnds s → IsSomeEnds (held_ends p s)
+held_some Whole s some = some.0
+held_some Away s some = some.1
+
+open_some : (p : Part) (s : EachOf Ends) → AreSomeEnds s → IsSomeEnds (open_ends p s)
+open_some Whole s some = some.2
+open_some Away s some = some.3
+
 module _ (a b : EachOf Ends) where
   -- each register and number in it is small
   abbrev AreSmallIn : Glue → Type 0
@@ -327,11 +338,11 @@ module _ (a b : EachOf Ends) where
   AreSmallIn (Number x) = IsWithin 1 x
   AreSmallIn (With o u v) = AreSmallIn u × AreSmallIn v
 
-  within_words : (u : Glue) → AreSmallIn u → AreWithin (words u) (glue_in plain_values a b u)
-  within_words (Left f) h = h
-  within_words (Right f) h = h
-  within_words (Number x) h = number_within x h
-  within_words (With o u v) h = both_within o (words u) (words v) _ _ (within_words u h.0) (within_words v h.1)
+  within_words : (u : Glue) → IsNarrow u → AreSmallIn u → AreWithin (words u) (glue_in plain_values a b u)
+  within_words (Left f) n h = h
+  within_words (Right f) n h = h
+  within_words (Number x) n h = number_within x h
+  within_words (With o u v) n h = both_within o (words u) (words v) _ _ n.0 (within_words u n.2 h.0) (within_words v n.3 h.1)
 
   small_takes : (u : Glue) → IsNarrow u → AreSmallIn u → GlueTakes TakesPlain plain_values a b u
   small_takes (Left f) n h = word_taken f a n
@@ -340,7 +351,7 @@ module _ (a b : EachOf Ends) where
   small_takes (With o u v) n h = (
     small_takes u n.2 h.0,
     small_takes v n.3 h.1,
-    both_taken o (words u) (words v) _ _ n.0 n.1 (within_words u h.0) (within_words v h.1),
+    both_taken o (words u) (words v) _ _ n.0 n.1 (within_words u n.2 h.0) (within_words v n.3 h.1),
   )
 
   free_takes : (u : Glue) → AddsNever u → GlueTakes TakesPlain plain_values a b u
@@ -350,90 +361,116 @@ module _ (a b : EachOf Ends) where
   free_takes (With o u v) h = (free_takes u h.1, free_takes v h.2, free_taken o _ _ h.0)
 
   module _ (some_a : AreSomeEnds a) (some_b : AreSomeEnds b) where
-    fold_small : (d : ℤ) (trims l r : Bool) → IsWithin 1 d → IsWithin 1 (neg_ℤ d) → ArePlain a.d → ArePlain b.d →
-        (folds_held trims l ≡ true → ArePlain a.c) → (folds_held trims r ≡ true → ArePlain b.c) → AreSmallIn (folded Add Whole d trims l r)
-    fold_small d true true true w n p q s t = ((((small a.c some_a.0 (s refl), small a.d some_a.2 p), w), small b.c some_b.0 (t refl)), small b.d some_b.2 q)
-    fold_small d true true false w n p q s t = (((small a.c some_a.0 (s refl), small a.d some_a.2 p), w), small b.d some_b.2 q)
-    fold_small d true false true w n p q s t = (((small a.d some_a.2 p, w), small b.c some_b.0 (t refl)), small b.d some_b.2 q)
-    fold_small d true false false w n p q s t = ((small a.d some_a.2 p, w), small b.d some_b.2 q)
-    fold_small d false l r w n p q s t =
-        (((small a.c some_a.0 (s refl), small a.d some_a.2 p), (small b.c some_b.0 (t refl), small b.d some_b.2 q)), n)
+    -- what is held of a part is small where it is folded, and what may come to it where that is small
+    left_in : (k : Part) → ArePlain (held_ends k a) → AreWithin 1 (held_ends k a)
+    left_in k = small (held_ends k a) (held_some k a some_a)
+
+    right_in : (k : Part) → ArePlain (held_ends k b) → AreWithin 1 (held_ends k b)
+    right_in k = small (held_ends k b) (held_some k b some_b)
+
+    left_comes : (k : Part) → ArePlain (open_ends k a) → AreWithin 1 (open_ends k a)
+    left_comes k = small (open_ends k a) (open_some k a some_a)
+
+    right_comes : (k : Part) → ArePlain (open_ends k b) → AreWithin 1 (open_ends k b)
+    right_comes k = small (open_ends k b) (open_some k b some_b)
+
+    left_beside : (k : Part) (o : Op) → IsOpenPlain o (open_ends k a) → IsBeside o (open_ends k a)
+    left_beside k o = open_beside o (open_ends k a) (open_some k a some_a)
+
+    right_beside : (k : Part) (o : Op) → IsOpenPlain o (open_ends k b) → IsBeside o (open_ends k b)
+    right_beside k o = open_beside o (open_ends k b) (open_some k b some_b)
+
+    fold_small : (k : Part) (d : ℤ) (trims l r : Bool) → IsWithin 1 d → IsWithin 1 (neg_ℤ d) → ArePlain (open_ends k a) → ArePlain (open_ends k b) →
+        (folds_held trims l ≡ true → ArePlain (held_ends k a)) → (folds_held trims r ≡ true → ArePlain (held_ends k b)) → AreSmallIn (folded Add k d trims l r)
+    fold_small k d true true true w n p q s t = ((((left_in k (s refl), left_comes k p), w), right_in k (t refl)), right_comes k q)
+    fold_small k d true true false w n p q s t = (((left_in k (s refl), left_comes k p), w), right_comes k q)
+    fold_small k d true false true w n p q s t = (((left_comes k p, w), right_in k (t refl)), right_comes k q)
+    fold_small k d true false false w n p q s t = ((left_comes k p, w), right_comes k q)
+    fold_small k d false l r w n p q s t =
+        (((left_in k (s refl), left_comes k p), (right_in k (t refl), right_comes k q)), n)
 
     -- of cells that may be none the one that goes with a small number is small
-    fold_one : (o : Op) (d : ℤ) (trims l r : Bool) → is_add o ≡ false → IsWithin 1 d → IsOpenPlain o a.d → IsOpenPlain o b.d →
-        (folds_held trims l ≡ true → ArePlain a.c) → (folds_held trims r ≡ true → ArePlain b.c) →
-        AreWithin 1 (glue_in plain_values a b (folded o Whole d trims l r))
-    fold_one o d true true true e w p q s t =
+    fold_one : (k : Part) (o : Op) (d : ℤ) (trims l r : Bool) → is_add o ≡ false → IsWithin 1 d →
+        IsOpenPlain o (open_ends k a) → IsOpenPlain o (open_ends k b) →
+        (folds_held trims l ≡ true → ArePlain (held_ends k a)) → (folds_held trims r ≡ true → ArePlain (held_ends k b)) →
+        AreWithin 1 (glue_in plain_values a b (folded o k d trims l r))
+    fold_one k o d true true true e w p q s t =
         small_first o _ _ e
         (small_first o _ _ e
-        (small_first o _ _ e (small_first o _ _ e (small a.c some_a.0 (s refl)) (open_beside o a.d some_a.2 p)) (within_beside o _ (number_within d w)))
-        (within_beside o _ (small b.c some_b.0 (t refl)))) (open_beside o b.d some_b.2 q)
-    fold_one o d true true false e w p q s t =
+        (small_first o _ _ e (small_first o _ _ e (left_in k (s refl)) (left_beside k o p)) (within_beside o _ (number_within d w)))
+        (within_beside o _ (right_in k (t refl)))) (right_beside k o q)
+    fold_one k o d true true false e w p q s t =
         small_first o _ _ e
-        (small_first o _ _ e (small_first o _ _ e (small a.c some_a.0 (s refl)) (open_beside o a.d some_a.2 p)) (within_beside o _ (number_within d w)))
-        (open_beside o b.d some_b.2 q)
-    fold_one o d true false true e w p q s t =
+        (small_first o _ _ e (small_first o _ _ e (left_in k (s refl)) (left_beside k o p)) (within_beside o _ (number_within d w)))
+        (right_beside k o q)
+    fold_one k o d true false true e w p q s t =
         small_first o _ _ e
-        (small_first o _ _ e (small_second o _ _ e (open_beside o a.d some_a.2 p) (number_within d w)) (within_beside o _ (small b.c some_b.0 (t refl))))
-        (open_beside o b.d some_b.2 q)
-    fold_one o d true false false e w p q s t =
-        small_first o _ _ e (small_second o _ _ e (open_beside o a.d some_a.2 p) (number_within d w)) (open_beside o b.d some_b.2 q)
-    fold_one Add d false l r e w p q s t = never_added e
-    fold_one Max d false l r e w p q s t =
-        small_first Max _ _ e (small_first Max _ _ e (small a.c some_a.0 (s refl)) (open_beside Max a.d some_a.2 p))
-        (within_beside Max _ (small_first Max _ _ e (small b.c some_b.0 (t refl)) (open_beside Max b.d some_b.2 q)))
-    fold_one Min d false l r e w p q s t =
-        small_first Min _ _ e (small_first Min _ _ e (small a.c some_a.0 (s refl)) (open_beside Min a.d some_a.2 p))
-        (within_beside Min _ (small_first Min _ _ e (small b.c some_b.0 (t refl)) (open_beside Min b.d some_b.2 q)))
+        (small_first o _ _ e (small_second o _ _ e (left_beside k o p) (number_within d w)) (within_beside o _ (right_in k (t refl))))
+        (right_beside k o q)
+    fold_one k o d true false false e w p q s t =
+        small_first o _ _ e (small_second o _ _ e (left_beside k o p) (number_within d w)) (right_beside k o q)
+    fold_one k Add d false l r e w p q s t = never_added e
+    fold_one k Max d false l r e w p q s t =
+        small_first Max _ _ e (small_first Max _ _ e (left_in k (s refl)) (left_beside k Max p))
+        (within_beside Max _ (small_first Max _ _ e (right_in k (t refl)) (right_beside k Max q)))
+    fold_one k Min d false l r e w p q s t =
+        small_first Min _ _ e (small_first Min _ _ e (left_in k (s refl)) (left_beside k Min p))
+        (within_beside Min _ (small_first Min _ _ e (right_in k (t refl)) (right_beside k Min q)))
 
-    fold_narrow : (o : Op) (d : ℤ) (trims l r : Bool) → IsNarrow (folded o Whole d trims l r)
-    fold_narrow o d true true true = search rules
-    fold_narrow o d true true false = search rules
-    fold_narrow o d true false true = search rules
-    fold_narrow o d true false false = search rules
-    fold_narrow Add d false l r = search rules
-    fold_narrow Max d false l r = search rules
-    fold_narrow Min d false l r = search rules
+    fold_narrow : (k : Part) (o : Op) (d : ℤ) (trims l r : Bool) → IsNarrow (folded o k d trims l r)
+    fold_narrow k o d true true true = search rules
+    fold_narrow k o d true true false = search rules
+    fold_narrow k o d true false true = search rules
+    fold_narrow k o d true false false = search rules
+    fold_narrow k Add d false l r = search rules
+    fold_narrow k Max d false l r = search rules
+    fold_narrow k Min d false l r = search rules
 
-    fold_words : (o : Op) (d : ℤ) (trims l r : Bool) → words (folded o Whole d trims l r) ≤ 5
-    fold_words o d true true true = omega arith
-    fold_words o d true true false = omega arith
-    fold_words o d true false true = omega arith
-    fold_words o d true false false = omega arith
-    fold_words Add d false l r = omega arith
-    fold_words Max d false l r = omega arith
-    fold_words Min d false l r = omega arith
+    fold_words : (k : Part) (o : Op) (d : ℤ) (trims l r : Bool) → words (folded o k d trims l r) ≤ 5
+    fold_words k o d true true true = omega arith
+    fold_words k o d true true false = omega arith
+    fold_words k o d true false true = omega arith
+    fold_words k o d true false false = omega arith
+    fold_words k Add d false l r = omega arith
+    fold_words k Max d false l r = omega arith
+    fold_words k Min d false l r = omega arith
 
-    fold_free : (o : Op) (d : ℤ) (trims l r : Bool) → is_add o ≡ false → AddsNever (folded o Whole d trims l r)
-    fold_free o d true true true e = search rules
-    fold_free o d true true false e = search rules
-    fold_free o d true false true e = search rules
-    fold_free o d true false false e = search rules
-    fold_free Add d false l r e = never_added e
-    fold_free Max d false l r e = search rules
-    fold_free Min d false l r e = search rules
+    fold_free : (k : Part) (o : Op) (d : ℤ) (trims l r : Bool) → is_add o ≡ false → AddsNever (folded o k d trims l r)
+    fold_free k o d true true true e = search rules
+    fold_free k o d true true false e = search rules
+    fold_free k o d true false true e = search rules
+    fold_free k o d true false false e = search rules
+    fold_free k Add d false l r e = never_added e
+    fold_free k Max d false l r e = search rules
+    fold_free k Min d false l r e = search rules
 
     worth_small : (x : ℤ) → IsCellValue x → IsWithin 1 x × IsWithin 1 (neg_ℤ x)
     worth_small x h = (cell_within x h, cell_within (neg_ℤ x) (cell_neg x h))
 
-    fold_within : (o : Op) (d : ℤ) (trims l r : Bool) → IsWithin 1 d → IsWithin 1 (neg_ℤ d) → IsOpenPlain o a.d → IsOpenPlain o b.d →
-        (folds_held trims l ≡ true → ArePlain a.c) → (folds_held trims r ≡ true → ArePlain b.c) →
-        AreWithin 5 (glue_in plain_values a b (folded o Whole d trims l r)) × GlueTakes TakesPlain plain_values a b (folded o Whole d trims l r)
-    fold_within Add d trims l r w n p q s t =
-        let u = folded Add Whole d trims l r in let h = fold_small d trims l r w n p q s t in
-        (are_within (words u) _ (fold_words Add d trims l r) (within_words u h), small_takes u (fold_narrow Add d trims l r) h)
-    fold_within Max d trims l r w n p q s t =
-        (are_within 1 _ (omega arith) (fold_one Max d trims l r refl w p q s t), free_takes (folded Max Whole d trims l r) (fold_free Max d trims l r refl))
-    fold_within Min d trims l r w n p q s t =
-        (are_within 1 _ (omega arith) (fold_one Min d trims l r refl w p q s t), free_takes (folded Min Whole d trims l r) (fold_free Min d trims l r refl))
+    extreme_within : (k : Part) (o : Op) (g : Gluing) → IsCellValue g.worth → is_add o ≡ false → IsFoldPlain k o g a b →
+        AreWithin 1 (glue_in plain_values a b (folded o k g.worth g.trims g.held_left g.held_right))
+        × GlueTakes TakesPlain plain_values a b (folded o k g.worth g.trims g.held_left g.held_right)
+    extreme_within k o g h e f = (
+      fold_one k o g.worth g.trims g.held_left g.held_right e (worth_small g.worth h).0 f.left_open f.right_open f.left_held f.right_held,
+      free_takes (folded o k g.worth g.trims g.held_left g.held_right) (fold_free k o g.worth g.trims g.held_left g.held_right e),
+    )
 
-    folds_taken : (g : Gluing) (h : IsCellValue g.worth) → (is_add g.fold ≡ true → IsFoldPlain g a b) → (v : Bool) → is_add g.fold ≡ v →
+    fold_within : (k : Part) (o : Op) (g : Gluing) → IsCellValue g.worth → IsFoldPlain k o g a b →
+        AreWithin 5 (glue_in plain_values a b (folded o k g.worth g.trims g.held_left g.held_right))
+        × GlueTakes TakesPlain plain_values a b (folded o k g.worth g.trims g.held_left g.held_right)
+    fold_within k Add g h f =
+        let w = worth_small g.worth h in let u = folded Add k g.worth g.trims g.held_left g.held_right in
+        let n = fold_narrow k Add g.worth g.trims g.held_left g.held_right in
+        let small = fold_small k g.worth g.trims g.held_left g.held_right w.0 w.1 f.left_open f.right_open f.left_held f.right_held in
+        (are_within (words u) _ (fold_words k Add g.worth g.trims g.held_left g.held_right) (within_words u n small), small_takes u n small)
+    fold_within k Max g h f = let u = extreme_within k Max g h refl f in (are_within 1 _ (omega arith) u.0, u.1)
+    fold_within k Min g h f = let u = extreme_within k Min g h refl f in (are_within 1 _ (omega arith) u.0, u.1)
+
+    folds_taken : (g : Gluing) (h : IsCellValue g.worth) → (is_add g.fold ≡ true → IsFoldPlain Whole g.fold g a b) → (v : Bool) → is_add g.fold ≡ v →
         GlueTakes TakesPlain plain_values a b (folded g.fold Whole g.worth g.trims g.held_left g.held_right)
-    folds_taken g h plain true e =
-        let f = plain e in let w = worth_small g.worth h in
-        (fold_within g.fold g.worth g.trims g.held_left g.held_right w.0 w.1 f.left_d f.right_d f.left_c f.right_c).1
+    folds_taken g h plain true e = (fold_within Whole g.fold g h (plain e)).1
     folds_taken g h plain false e =
-        free_takes (folded g.fold Whole g.worth g.trims g.held_left g.held_right) (fold_free g.fold g.worth g.trims g.held_left g.held_right e)
+        free_takes (folded g.fold Whole g.worth g.trims g.held_left g.held_right) (fold_free Whole g.fold g.worth g.trims g.held_left g.held_right e)
 
     left_or : (u v : Bool) → u ≡ true → (u || v) ≡ true
     left_or u v e = ap (λ z. z || v) e
@@ -442,75 +479,91 @@ module _ (a b : EachOf Ends) where
     right_or true v e = refl
     right_or false v e = e
 
-    joined_taken : (g : Gluing) → IsCellValue g.worth → IsPlain g a b → g.joins ≡ true → (v : Bool) → is_add g.result ≡ v →
-        GlueTakes TakesPlain plain_values a b (join_of g.result (folded g.fold Whole g.worth g.trims g.held_left g.held_right))
-    joined_taken g h plain j true e =
-        let rs = plain.results e in
-        let f = plain.folded (left_or (is_add g.result) (is_add g.fold) e) j in let w = worth_small g.worth h in
-        let u = fold_within g.fold g.worth g.trims g.held_left g.held_right w.0 w.1 f.left_d f.right_d f.left_c f.right_c in
-        let o = Fold g.result in let ar = small a.r some_a.4 rs.0 in let br = small b.r some_b.4 rs.1 in (
-          (tt, tt, both_taken o 1 1 a.r b.r (omega arith) (omega arith) ar br),
-          u.1,
-          both_taken o 2 5 (plain_by o a.r b.r) _ (omega arith) (omega arith) (both_within o 1 1 a.r b.r ar br) u.0,
+    -- results with what is folded
+    with_results : (o : Op) (u : Glue) → (is_add o ≡ true → ArePlain a.r × ArePlain b.r) → (is_add o ≡ true → AreWithin 5 (glue_in plain_values a b u)) →
+        GlueTakes TakesPlain plain_values a b u → (v : Bool) → is_add o ≡ v → GlueTakes TakesPlain plain_values a b (join_of o u)
+    with_results o u results few takes true e =
+        let rs = results e in let ar = small a.r some_a.4 rs.0 in let br = small b.r some_b.4 rs.1 in (
+          (tt, tt, both_taken (Fold o) 1 1 a.r b.r (omega arith) (omega arith) ar br),
+          takes,
+          both_taken (Fold o) 2 5 (plain_by (Fold o) a.r b.r) _ (omega arith) (omega arith) (both_within (Fold o) 1 1 a.r b.r (omega arith) ar br) (few e),
         )
-    joined_taken g h plain j false e = (
-      (tt, tt, free_taken (Fold g.result) a.r b.r e),
-      folds_taken g h (λ z. plain.folded (right_or (is_add g.result) (is_add g.fold) z) j) (is_add g.fold) refl,
-      free_taken (Fold g.result) _ _ e,
-    )
+    with_results o u results few takes false e = ((tt, tt, free_taken (Fold o) a.r b.r e), takes, free_taken (Fold o) _ _ e)
 
-    apart_narrow : (g : Gluing) → IsPlain g a b → g.joins ≡ false → (v : Bool) → is_add g.result ≡ v →
+    joined_narrow : (g : Gluing) → IsCellValue g.worth → IsPlain g a b → g.joins ≡ true → g.wide ≡ false →
+        GlueTakes TakesPlain plain_values a b (join_of g.result (folded g.fold Whole g.worth g.trims g.held_left g.held_right))
+    joined_narrow g h plain j w =
+        with_results g.result (folded g.fold Whole g.worth g.trims g.held_left g.held_right) plain.results
+        (λ e. (fold_within Whole g.fold g h (plain.folded w (left_or (is_add g.result) (is_add g.fold) e) j)).0)
+        (folds_taken g h (λ z. plain.folded w (right_or (is_add g.result) (is_add g.fold) z) j) (is_add g.fold) refl) (is_add g.result) refl
+
+    -- the greatest of cells less the least
+    joined_wide : (g : Gluing) → IsCellValue g.worth → IsPlain g a b → g.joins ≡ true → g.wide ≡ true →
+        GlueTakes TakesPlain plain_values a b (join_of g.result (fold_of true g.fold (part_by g)))
+    joined_wide g h plain j w =
+        let s = plain.spread w j in
+        let u = extreme_within Whole g.fold g h s.0 s.1 in let v = extreme_within Away Min g h refl s.2 in
+        with_results g.result (fold_of true g.fold (part_by g)) plain.results
+        (λ e. are_within 2 _ (omega arith) (both_within Sub 1 1 _ _ (omega arith) u.0 v.0))
+        (u.1, v.1, both_taken Sub 1 1 _ _ (omega arith) (omega arith) u.0 v.0) (is_add g.result) refl
+
+    apart_narrow : (g : Gluing) → IsPlain g a b → g.joins ≡ false → g.wide ≡ false → (v : Bool) → is_add g.result ≡ v →
         GlueTakes TakesPlain plain_values a b (apart false g.result)
-    apart_narrow g plain j true e =
-        let rs = plain.results e in let cs = plain.apart (right_or g.wide (is_add g.result) e) j in let o = Fold g.result in
+    apart_narrow g plain j w true e =
+        let rs = plain.results e in let cs = plain.apart w e j in let o = Fold g.result in
         let ar = small a.r some_a.4 rs.0 in let ac = small a.c some_a.0 cs.0 in
         let br = small b.r some_b.4 rs.1 in let bc = small b.c some_b.0 cs.1 in (
           (tt, tt, both_taken o 1 1 a.r a.c (omega arith) (omega arith) ar ac),
           (tt, tt, both_taken o 1 1 b.r b.c (omega arith) (omega arith) br bc),
-          both_taken o 2 2 (plain_by o a.r a.c) (plain_by o b.r b.c) (omega arith) (omega arith) (both_within o 1 1 a.r a.c ar ac)
-              (both_within o 1 1 b.r b.c br bc),
+          both_taken o 2 2 (plain_by o a.r a.c) (plain_by o b.r b.c) (omega arith) (omega arith) (both_within o 1 1 a.r a.c (omega arith) ar ac)
+              (both_within o 1 1 b.r b.c (omega arith) br bc),
         )
-    apart_narrow g plain j false e = (
+    apart_narrow g plain j w false e = (
       (tt, tt, free_taken (Fold g.result) _ _ e),
       (tt, tt, free_taken (Fold g.result) _ _ e),
       free_taken (Fold g.result) _ _ e,
     )
 
-    -- the greatest less the least
+    -- what is held, the greatest less the least
     abbrev spread : EachOf Ends → Ends
     spread s = plain_by Sub s.c s.e
 
-    spread_taken : (s : EachOf Ends) → AreSomeEnds s → ArePlain s.c → ArePlain s.e → TakesPlain Sub s.c s.e × AreWithin 2 (spread s)
-    spread_taken s some c e =
+    spread_taken : (sum : Bool) (s : EachOf Ends) → AreSomeEnds s → IsHeldPlain sum s →
+        TakesPlain Sub s.c s.e × (sum ≡ true → AreWithin 2 (spread s))
+    spread_taken sum s some (e, inl c) =
         let x = small s.c some.0 c in let y = small s.e some.1 e in
-        (both_taken Sub 1 1 s.c s.e (omega arith) (omega arith) x y, both_within Sub 1 1 s.c s.e x y)
+        (both_taken Sub 1 1 s.c s.e (omega arith) (omega arith) x y, λ h. both_within Sub 1 1 s.c s.e (omega arith) x y)
+    spread_taken sum s some (e, inr free) = (
+      (λ h. never_added (sym (far_infinity s.c free.1) ∙ h), λ h. free.1, are_within 1 s.e (omega arith) (small s.e some.1 e)),
+      λ h. never_added (sym h ∙ free.0),
+    )
 
     apart_wide : (g : Gluing) → IsPlain g a b → g.joins ≡ false → g.wide ≡ true → (v : Bool) → is_add g.result ≡ v →
         GlueTakes TakesPlain plain_values a b (apart true g.result)
     apart_wide g plain j w v e =
-        let cs = plain.apart (left_or g.wide (is_add g.result) w) j in let es = plain.away w in
-        by_sum v e (spread_taken a some_a cs.0 es.1) (spread_taken b some_b cs.1 es.2)
+        let h = plain.held w j in
+        by_sum v e (spread_taken (is_add g.result) a some_a h.0) (spread_taken (is_add g.result) b some_b h.1)
       where
         o : Operator
         o = Fold g.result
 
-        by_sum : (v : Bool) → is_add g.result ≡ v → TakesPlain Sub a.c a.e × AreWithin 2 (spread a) →
-            TakesPlain Sub b.c b.e × AreWithin 2 (spread b) → GlueTakes TakesPlain plain_values a b (apart true g.result)
+        by_sum : (v : Bool) → is_add g.result ≡ v → TakesPlain Sub a.c a.e × (is_add g.result ≡ true → AreWithin 2 (spread a)) →
+            TakesPlain Sub b.c b.e × (is_add g.result ≡ true → AreWithin 2 (spread b)) → GlueTakes TakesPlain plain_values a b (apart true g.result)
         by_sum true e p q =
             let rs = plain.results e in let ar = small a.r some_a.4 rs.0 in let br = small b.r some_b.4 rs.1 in (
-              (tt, (tt, tt, p.0), both_taken o 1 2 a.r (spread a) (omega arith) (omega arith) ar p.1),
-              (tt, (tt, tt, q.0), both_taken o 1 2 b.r (spread b) (omega arith) (omega arith) br q.1),
+              (tt, (tt, tt, p.0), both_taken o 1 2 a.r (spread a) (omega arith) (omega arith) ar (p.1 e)),
+              (tt, (tt, tt, q.0), both_taken o 1 2 b.r (spread b) (omega arith) (omega arith) br (q.1 e)),
               both_taken o 3 3 (plain_by o a.r (spread a)) (plain_by o b.r (spread b)) (omega arith) (omega arith)
-                  (both_within o 1 2 a.r (spread a) ar p.1) (both_within o 1 2 b.r (spread b) br q.1),
+                  (both_within o 1 2 a.r (spread a) (omega arith) ar (p.1 e)) (both_within o 1 2 b.r (spread b) (omega arith) br (q.1 e)),
             )
         by_sum false e p q =
             ((tt, (tt, tt, p.0), free_taken o _ _ e), (tt, (tt, tt, q.0), free_taken o _ _ e), free_taken o _ _ e)
 
     plain_by_shape : (g : Gluing) → IsCellValue g.worth → IsPlain g a b → (wide joins : Bool) → g.wide ≡ wide → g.joins ≡ joins →
         GlueTakes TakesPlain plain_values a b (cond joins (join_of g.result (fold_of wide g.fold (part_by g))) (apart wide g.result))
-    plain_by_shape g h plain false true w j = joined_taken g h plain j (is_add g.result) refl
-    plain_by_shape g h plain false false w j = apart_narrow g plain j (is_add g.result) refl
-    plain_by_shape g h plain true true w j = never_added (sym j ∙ (plain.away w).0)
+    plain_by_shape g h plain false true w j = joined_narrow g h plain j w
+    plain_by_shape g h plain false false w j = apart_narrow g plain j w (is_add g.result) refl
+    plain_by_shape g h plain true true w j = joined_wide g h plain j w
     plain_by_shape g h plain true false w j = apart_wide g plain j w (is_add g.result) refl
 
     pub plain_takes : (g : Gluing) → IsCellValue g.worth → IsPlain g a b → GlueTakes TakesPlain plain_values a b (expression g)

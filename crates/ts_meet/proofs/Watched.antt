@@ -74,9 +74,6 @@ plain_below e top h p = let a = h.0 in let b = h.1 in let x = p.0 in (omega (ari
 left_or : (u v : Bool) → u ≡ true → (u || v) ≡ true
 left_or u v e = ap (λ z. z || v) e
 
-narrow_or : (w u v : Bool) → w ≡ false → (w || u) ≡ true → (u || v) ≡ true
-narrow_or w u v n e = left_or u v (sym (ap (λ z. z || u) n) ∙ e)
-
 open_below : (o : Op) (e top : Ends) → AreBelow e top → IsOpenPlain o top → IsOpenPlain o e
 open_below Add e top h p = let a = h.0 in let b = h.1 in let x = p.0 in let y = p.1 in (omega (arith, ints, a, x), omega (arith, ints, b, y))
 open_below Max e top h p = let b = h.1 in omega (arith, ints, b, p)
@@ -87,15 +84,16 @@ pub plain_within : (g : Gluing) (k l : Peaks) (a b : EachOf Ends) → g.wide ≡
 plain_within g k l a b narrow p under = record {
   results = λ e. let u = under (left_or (is_add g.result) (is_add g.fold) e) in let rs = p.results e in
       (plain_below a.r k.r u.0.2 rs.0, plain_below b.r l.r u.1.2 rs.1);
-  apart = λ e j. let u = under (narrow_or g.wide (is_add g.result) (is_add g.fold) narrow e) in let cs = p.apart e j in
+  apart = λ n e j. let u = under (left_or (is_add g.result) (is_add g.fold) e) in let cs = p.apart n e j in
       (plain_below a.c k.c u.0.0 cs.0, plain_below b.c l.c u.1.0 cs.1);
-  away = λ w. never_added (sym w ∙ narrow);
-  folded = λ e j. let u = under e in let f = p.folded e j in record {
-    left_d = open_below g.fold a.d k.d u.0.1 f.left_d;
-    right_d = open_below g.fold b.d l.d u.1.1 f.right_d;
-    left_c = λ h. plain_below a.c k.c u.0.0 (f.left_c h);
-    right_c = λ h. plain_below b.c l.c u.1.0 (f.right_c h);
+  held = λ w j. never_added (sym w ∙ narrow);
+  folded = λ n e j. let u = under e in let f = p.folded n e j in record {
+    left_open = open_below g.fold a.d k.d u.0.1 f.left_open;
+    right_open = open_below g.fold b.d l.d u.1.1 f.right_open;
+    left_held = λ h. plain_below a.c k.c u.0.0 (f.left_held h);
+    right_held = λ h. plain_below b.c l.c u.1.0 (f.right_held h);
   };
+  spread = λ w j. never_added (sym w ∙ narrow);
 }
 
 -- hulls under such ends are taken at each place

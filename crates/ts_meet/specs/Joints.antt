@@ -1,19 +1,20 @@
 -- How the two runs of a machine are glued, found once for a machine.
-use Rattle.std.specs.Prelude.{◌≡◌, ◌<◌, ◌≤ℤ◌, ℕ, pos, zero, suc, nat_eq, ℤ, Bool, true, false, ◌||◌, List, [], get_or, length, if◌then◌else◌}
+use Rattle.std.specs.Prelude.{◌≡◌, ◌⊎◌, ◌<◌, ◌≤ℤ◌, ℕ, pos, zero, suc, nat_eq, ℤ, Bool, true, false, ◌||◌, List, [], get_or, length, if◌then◌else◌}
 use Rattle.ts_base.specs.declared.op.Op.{Op}
 use Rattle.ts_base.specs.declared.op.Op.TheVariants.{Add, Max, Min}
 use Rattle.ts_automaton.specs.Body.{node_at}
 use Rattle.ts_automaton.specs.declared.state.Mark.{Mark}
 use Rattle.ts_automaton.specs.declared.state.Mark.TheVariants.{Same, Zero as ZeroMark, Cells}
-use Rattle.ts_automaton.specs.Registers.{EachOf}
-use Rattle.ts_glue.specs.Glue.{Glue, apart, fold_of, folded_between, folded_both, fold_op, glue_of, is_join, is_wide, join_of, result_op, worth}
+use Rattle.ts_automaton.specs.Registers.{EachOf, value_in}
+use Rattle.ts_glue.specs.Glue.{Glue, apart, fold_of, folded_between, folded_both, fold_op, glue_of, held_in, is_join, is_wide, join_of, open_in, result_op, worth}
 use Rattle.ts_glue.specs.declared.operand.Part.{Part}
-use Rattle.ts_glue.specs.declared.operand.Part.TheVariants.{Whole}
+use Rattle.ts_glue.specs.declared.operand.Part.TheVariants.{Whole, Away}
 use Rattle.ts_glue.specs.Pairs.{Pair}
 use Rattle.ts_sweep.specs.declared.packed.Ends.{Ends}
 use Rattle.ts_sweep.specs.Fronts.{ArePlain}
 use Rattle.ts_meet.specs.declared.gluing.Gluing.{Gluing}
 use Rattle.ts_meet.specs.declared.joints.Joints.{Joints}
+use Rattle.ts_meet.specs.Sides.{IsInfinity, plain_values}
 
 -- a part of the one occurrence, folded by an operator, where the cell has a worth
 abbrev pub part_by : Gluing → Op → Part → Glue
@@ -88,19 +89,38 @@ IsOpenPlain Add e = ArePlain e
 IsOpenPlain Max e = e.above ≤ℤ pos 10000000000000000
 IsOpenPlain Min e = e.below ≤ℤ pos 10000000000000000
 
--- no end of a number that is folded is above 10^16
-pub record IsFoldPlain (g : Gluing) (left right : EachOf Ends) : Type 0 where
-  pub left_d : IsOpenPlain g.fold left.d
-  pub right_d : IsOpenPlain g.fold right.d
-  pub left_c : folds_held g.trims g.held_left ≡ true → ArePlain left.c
-  pub right_c : folds_held g.trims g.held_right ≡ true → ArePlain right.c
+-- the ends of what is held of a part, and of what may come to it
+abbrev pub held_ends : Part → EachOf Ends → Ends
+held_ends p s = value_in plain_values s (pos 0) (pos 0) (held_in p)
 
--- nor of one that is added or taken away; nothing is taken away from an occurrence that goes on
+abbrev pub open_ends : Part → EachOf Ends → Ends
+open_ends p s = value_in plain_values s (pos 0) (pos 0) (open_in p)
+
+-- no end of a number that is folded into a part by an operator is above 10^16
+pub record IsFoldPlain (p : Part) (o : Op) (g : Gluing) (left right : EachOf Ends) : Type 0 where
+  pub left_open : IsOpenPlain o (open_ends p left)
+  pub right_open : IsOpenPlain o (open_ends p right)
+  pub left_held : folds_held g.trims g.held_left ≡ true → ArePlain (held_ends p left)
+  pub right_held : folds_held g.trims g.held_right ≡ true → ArePlain (held_ends p right)
+
+-- nor of the greatest and the least of the cells of a wide occurrence that goes on
+abbrev pub IsSpreadPlain : Gluing → EachOf Ends → EachOf Ends → Type 0
+IsSpreadPlain g left right =
+    (is_add g.fold ≡ false) × IsFoldPlain Whole g.fold g left right × IsFoldPlain Away Min g left right
+
+-- nor of what is held of one; the greatest is infinite where nothing is held, which is as good if results aren't added
+abbrev pub IsHeldPlain : Bool → EachOf Ends → Type 0
+IsHeldPlain adds s = ArePlain s.e × (ArePlain s.c ⊎ ((adds ≡ false) × IsInfinity s.c))
+
+-- nor of any number that is added or taken away
 pub record IsPlain (g : Gluing) (left right : EachOf Ends) : Type 0 where
   pub results : is_add g.result ≡ true → ArePlain left.r × ArePlain right.r
-  pub apart : (g.wide || is_add g.result) ≡ true → g.joins ≡ false → ArePlain left.c × ArePlain right.c
-  pub away : g.wide ≡ true → (g.joins ≡ false) × ArePlain left.e × ArePlain right.e
-  pub folded : (is_add g.result || is_add g.fold) ≡ true → g.joins ≡ true → IsFoldPlain g left right
+  pub apart : g.wide ≡ false → is_add g.result ≡ true → g.joins ≡ false → ArePlain left.c × ArePlain right.c
+  pub held : g.wide ≡ true → g.joins ≡ false → IsHeldPlain (is_add g.result) left × IsHeldPlain (is_add g.result) right
+  pub folded :
+      g.wide ≡ false → (is_add g.result || is_add g.fold) ≡ true → g.joins ≡ true →
+      IsFoldPlain Whole g.fold g left right
+  pub spread : g.wide ≡ true → g.joins ≡ true → IsSpreadPlain g left right
 
 -- an occurrence leaves a cell out at its end
 abbrev pub leaves_out : ℕ → Bool

@@ -1,5 +1,5 @@
 -- The registers on both sides of a cell, by their ends, and what operators and a mark make of ends.
-use Rattle.std.specs.Prelude.{◌≡◌, ◌⊎◌, ℕ, ℤ, pos, negsuc, neg_ℤ, int_le, if◌then◌else◌, List}
+use Rattle.std.specs.Prelude.{◌≡◌, ◌⊎◌, ℕ, ℤ, Bool, true, false, pos, negsuc, neg_ℤ, int_le, if◌then◌else◌, List}
 use Rattle.std.specs.Int.{int_max, int_min}
 use Rattle.ts_base.specs.declared.ext.Ext.{Ext}
 use Rattle.ts_base.specs.declared.span.Span.{Span}
@@ -59,19 +59,32 @@ AreSomeEnds s = IsSomeEnds s.c × IsSomeEnds s.e × IsSomeEnds s.d × IsSomeEnds
 abbrev pub ArePackOf : EachOf Ends → EachOf Span → Type 0
 ArePackOf = Each IsPackOf
 
+-- an end is infinite outwards; both ends are one infinity
+abbrev pub is_far : Ends → Bool
+is_far e = int_le (pos 9223372036854775807) (int_max e.below e.above)
+
+abbrev pub IsInfinity : Ends → Type 0
+IsInfinity e =
+    ((e.below ≡ pos 9223372036854775807) × (e.above ≡ negsuc 9223372036854775806))
+    ⊎ ((e.below ≡ negsuc 9223372036854775806) × (e.above ≡ pos 9223372036854775807))
+
+-- the first less the second: one infinity stays
+abbrev pub kept_less : Ends → Ends → Ends
+kept_less a b = if is_far a then a else sum_of_ends a (crossed b)
+
 -- operators whose sums are those of the lanes
 abbrev pub plain_by : Operator → Ends → Ends → Ends
 plain_by (Fold Add) a b = sum_of_ends a b
 plain_by (Fold Max) a b = greater_of_ends a b
 plain_by (Fold Min) a b = lesser_of_ends a b
-plain_by Sub a b = sum_of_ends a (crossed b)
+plain_by Sub a b = kept_less a b
 
--- they are right of small numbers alone
+-- they are right of small numbers alone; one infinity has something taken away
 abbrev pub TakesPlain : Operator → Ends → Ends → Type 0
 TakesPlain (Fold Add) a b = AreWithin 5 a × AreWithin 5 b
 TakesPlain (Fold Max) a b = Unit {0}
 TakesPlain (Fold Min) a b = Unit {0}
-TakesPlain Sub a b = AreWithin 5 a × AreWithin 5 b
+TakesPlain Sub a b = (is_far a ≡ false → AreWithin 5 a) × (is_far a ≡ true → IsInfinity a) × AreWithin 5 b
 
 abbrev pub TakesAny : Operator → Ends → Ends → Type 0
 TakesAny o a b = Unit {0}

@@ -22,7 +22,7 @@ use crate::gluing::Gluing;
 use crate::joints::{Joints, STATES};
 use crate::marked::{hull_of_both, joined, marked, nothing, span_of};
 use crate::peaks::{Peaks, peaks_of};
-use crate::seam::{Any, Apart, Between, Both, PlainApart, Seam};
+use crate::seam::{Any, Apart, Between, Both, PlainApart, Seam, Spread};
 use ts_automaton::{Mark, Op};
 use ts_base::Span;
 use ts_row::RowView;
@@ -250,8 +250,7 @@ fn along_joined<const O: u8, const N: usize>(
         (pair_along N p q r left.now right.now from values.now cells (length values.now)) }
 {
     if joints.wide {
-        let gluing = joints.joined(numbered(O), joints.fold, q, r);
-        return along_glued(Any, joints, gluing, left, right, values, from, cells);
+        return along_spread::<O, N>(joints, q, r, left, right, values, from, cells);
     }
     match joints.fold {
         Op::Add => along_folded::<O, SUM, N>(
@@ -263,6 +262,40 @@ fn along_joined<const O: u8, const N: usize>(
         Op::Min => along_folded::<O, LEAST, N>(
             joints, q, r, first, second, left, right, values, from, cells,
         ),
+    }
+}
+
+/// The hull where one occurrence of wide automata goes on: the greatest of its cells less the least.
+#[inline(always)]
+fn along_spread<const O: u8, const N: usize>(
+    joints: &Joints,
+    q: u8,
+    r: u8,
+    left: &[PackedHull<N>],
+    right: &[PackedHull<N>],
+    values: &[i64],
+    from: usize,
+    cells: u32,
+) -> Ends
+    requires registers { 6 ≤ lane_count N }
+    requires alone { (sides N ≡ BothEnds) ⊎ (joints.now.wide ≡ false) }
+    requires operator { numbered O ≡ joints.now.result }
+    requires wide { joints.now.wide ≡ true }
+    requires state { q < joints.now.left_states }
+    requires other { r < joints.now.right_states }
+    requires left { ArePlaces N (from + length values.now) left.now }
+    requires right { ArePlaces N (from + length values.now) right.now }
+    requires values { AreCellValues values.now }
+    ensures { (p : Pair) → AreJoints p joints.now → is_join p.table q r ≡ true → StandFor result
+        (pair_along N p q r left.now right.now from values.now cells (length values.now)) }
+{
+    let gluing = joints.joined(numbered(O), joints.fold, q, r);
+    match joints.fold {
+        Op::Max => {
+            let seam = Spread::<O, GREATEST>;
+            along_glued(seam, joints, gluing, left, right, values, from, cells)
+        }
+        Op::Add | Op::Min => { along_glued(Any, joints, gluing, left, right, values, from, cells) }
     }
 }
 

@@ -8,6 +8,7 @@ ghost use Rattle.ts_glue.specs.Glue.{GlueTakes, apart, fold_of, folded_between, 
 ghost use Rattle.ts_hull.specs.Sealed.{sealed_spans};
 ghost use Rattle.ts_meet.specs.Joints.{
   IsFoldPlain,
+  IsHeldPlain,
   IsPlain,
   between_expression,
   both_expression,
@@ -29,7 +30,7 @@ ghost use Rattle.ts_sweep.specs.Sides.{BothEnds, lane_count, seen, sides};
 
 use crate::peaks::Peaks;
 use crate::side::{Side, are_plain, is_open_plain, shown};
-use crate::sums::{Clamped, Plain, Sums};
+use crate::sums::{Clamped, Plain, Sums, is_infinity};
 use ts_automaton::{Op, Operator};
 use ts_glue::Part;
 use ts_sweep::packed::{Ends, PackedHull};
@@ -158,6 +159,26 @@ impl Gluing {
             (expression self))) }
     {
         shown::<N>(self.pointed_apart(left, right))
+    }
+
+    /// The glued ends of two hulls before the mark, where one occurrence goes on.
+    #[inline(always)]
+    pub(crate) fn glued_joined<const N: usize>(
+        self,
+        left: &PackedHull<N>,
+        right: &PackedHull<N>,
+    ) -> Ends
+        requires registers { 6 ≤ lane_count N }
+        requires alone { (sides N ≡ BothEnds) ⊎ (self.wide ≡ false) }
+        requires left { AreSome (lane_count N) (lanes_of N left.now) }
+        requires right { AreSome (lane_count N) (lanes_of N right.now) }
+        requires worth { IsCellValue self.worth }
+        requires joined { self.joins ≡ true }
+        ensures { IsPackOf result (seen (sides N) (glue_in sealed_spans
+            (spans_of (unpacked (lanes_of N left.now))) (spans_of (unpacked (lanes_of N right.now)))
+            (expression self))) }
+    {
+        shown::<N>(self.pointed_joined(left, right))
     }
 
     /// The glued ends of two hulls before the mark, where no occurrence goes on and all numbers that are added are
@@ -562,40 +583,47 @@ impl Gluing {
         ensures { result ≡ true → IsPlain self (ends_in left) (ends_in right) }
     {
         let adds = is_add(self.result);
-        if adds && !(are_plain(left.r) && are_plain(right.r)) {
+        if !self.are_results_plain(left, right) {
             return false;
         }
         if self.wide {
-            is_held_plain(left) && is_held_plain(right)
+            is_held_plain(adds, left) && is_held_plain(adds, right)
         } else {
             !adds || are_plain(left.c) && are_plain(right.c)
         }
     }
 
     /// Whether all numbers that are added or taken away are small, where one occurrence goes on. It is false between
-    /// wide automata: what is open is infinite in most of their states.
+    /// wide automata: to find it out there takes longer than clamped sums.
     #[inline(always)]
     fn is_joined_plain(self, left: Side, right: Side) -> bool
         requires { self.joins ≡ true }
-        ensures plain { result ≡ true → IsPlain self (ends_in left) (ends_in right) }
-        ensures narrow { result ≡ true → self.wide ≡ false }
+        ensures { result ≡ true → IsPlain self (ends_in left) (ends_in right) }
     {
-        let adds = is_add(self.result);
-        if self.wide || adds && !(are_plain(left.r) && are_plain(right.r)) {
+        if self.wide || !self.are_results_plain(left, right) {
             return false;
         }
-        !(adds || is_add(self.fold)) || self.is_fold_plain(left, right)
+        let adds = is_add(self.result) || is_add(self.fold);
+        !adds || self.is_fold_plain(Part::Whole, self.fold, left, right)
     }
 
-    /// Whether all numbers that are folded are small.
+    /// Whether the results of both sides are small, if they are added.
     #[inline(always)]
-    fn is_fold_plain(self, left: Side, right: Side) -> bool
-        ensures { result ≡ true → IsFoldPlain self (ends_in left) (ends_in right) }
+    fn are_results_plain(self, left: Side, right: Side) -> bool
+        ensures { result ≡ true → is_add self.result ≡ true → ArePlain left.r × ArePlain right.r }
     {
-        is_open_plain(self.fold, left.d)
-            && is_open_plain(self.fold, right.d)
-            && (!folds_held(self.trims, self.held_left) || are_plain(left.c))
-            && (!folds_held(self.trims, self.held_right) || are_plain(right.c))
+        !is_add(self.result) || are_plain(left.r) && are_plain(right.r)
+    }
+
+    /// Whether all numbers that are folded into a part by an operator are small.
+    #[inline(always)]
+    fn is_fold_plain(self, part: Part, o: Op, left: Side, right: Side) -> bool
+        ensures { result ≡ true → IsFoldPlain part o self (ends_in left) (ends_in right) }
+    {
+        is_open_plain(o, left.open::<Plain>(part))
+            && is_open_plain(o, right.open::<Plain>(part))
+            && (!folds_held(self.trims, self.held_left) || are_plain(left.held::<Plain>(part)))
+            && (!folds_held(self.trims, self.held_right) || are_plain(right.held::<Plain>(part)))
     }
 }
 
@@ -666,12 +694,13 @@ fn clamped_apart<const N: usize>(
     gluing.answers::<Clamped>(Side::of(left), Side::of(right))
 }
 
-/// Whether what is held of an occurrence lies between small numbers, the greatest and the least of its cells.
+/// Whether what is held of an occurrence lies between small numbers, the greatest and the least of its cells. Where
+/// nothing is held, the greatest is infinite; that is as good, if nothing is added to it.
 #[inline(always)]
-fn is_held_plain(side: Side) -> bool
-    ensures { result ≡ true → ArePlain side.c × ArePlain side.e }
+fn is_held_plain(adds: bool, side: Side) -> bool
+    ensures { result ≡ true → IsHeldPlain adds (ends_in side) }
 {
-    are_plain(side.c) && are_plain(side.e)
+    are_plain(side.e) && (are_plain(side.c) || !adds && is_infinity(side.c))
 }
 
 /// Whether an operator adds.

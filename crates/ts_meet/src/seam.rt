@@ -63,6 +63,10 @@ pub(crate) struct Between<const O: u8, const F: u8>;
 #[derive(Clone, Copy)]
 pub(crate) struct Both<const O: u8, const F: u8>;
 
+/// One occurrence of wide automata goes on.
+#[derive(Clone, Copy)]
+pub(crate) struct Spread<const O: u8, const F: u8>;
+
 /// Any way to glue, looked up again for each value.
 #[derive(Clone, Copy)]
 pub(crate) struct Any;
@@ -145,6 +149,25 @@ impl<const O: u8, const F: u8, const N: usize> Seam<N> for Both<O, F> {
     fn glued(self, gluing: Gluing, left: &PackedHull<N>, right: &PackedHull<N>) -> Ends {
         let known = gluing.known(numbered(O), numbered(F), false);
         known.glued_both(left, right)
+    }
+}
+
+impl<const O: u8, const F: u8, const N: usize> Seam<N> for Spread<O, F> {
+    ghost use Rattle.std.specs.Prelude.{◌≡◌, true};
+    ghost use Rattle.ts_meet.specs.Joints.{numbered};
+
+    ghost fits = { λ g. (g.joins ≡ true) × (g.result ≡ numbered O) × (g.fold ≡ numbered F) × (g.wide ≡ true) };
+
+    ghost takes = { λ g a b. Unit {0} };
+
+    ghost any_worth = { λ g d h. h };
+
+    ghost takes_any = { λ g d a b h. h };
+
+    #[inline(always)]
+    fn glued(self, gluing: Gluing, left: &PackedHull<N>, right: &PackedHull<N>) -> Ends {
+        let known = gluing.known(numbered(O), numbered(F), true);
+        known.glued_joined(left, right)
     }
 }
 

@@ -1,7 +1,9 @@
 //! Operators on ends: with the sums of the lanes, which small numbers allow, or with clamped sums of any numbers.
 
-ghost use Rattle.std.specs.Prelude.{◌≡◌};
+ghost use Rattle.std.specs.Prelude.{◌≡◌, negsuc, pos, true};
+ghost use Rattle.ts_automaton.specs.declared.expr.Operator.TheVariants.{Sub};
 ghost use Rattle.ts_base.specs.Limits.{IsCellValue};
+ghost use Rattle.ts_meet.specs.Sides.{IsInfinity, TakesPlain, is_far, plain_by};
 ghost use Rattle.ts_sweep.specs.Operators.{crossed};
 ghost use Rattle.ts_sweep.specs.Packed.{number_ends};
 
@@ -74,6 +76,52 @@ pub(crate) fn crossed(e: Ends) -> Ends
     }
 }
 
+/// The first less the second, a small number. One infinity stays: what is held of an occurrence is so where none is
+/// open.
+#[inline(always)]
+fn less(first: Ends, second: Ends) -> Ends
+    requires { TakesPlain Sub first second }
+    ensures { result ≡ plain_by Sub first second }
+{
+    if is_far(first) {
+        first
+    } else {
+        Minus.of(first, second)
+    }
+}
+
+/// Whether an end is infinite outwards.
+#[inline(always)]
+fn is_far(e: Ends) -> bool
+    ensures { result ≡ is_far e }
+{
+    i64::MAX <= e.below.max(e.above)
+}
+
+/// Whether both ends are one infinity.
+#[inline(always)]
+pub(crate) fn is_infinity(e: Ends) -> bool
+    ensures { result ≡ true → IsInfinity e }
+{
+    is_low(e) || is_high(e)
+}
+
+/// Whether both ends are minus infinity.
+#[inline(always)]
+fn is_low(e: Ends) -> bool
+    ensures { result ≡ true → (e.below ≡ pos 9223372036854775807) × (e.above ≡ negsuc 9223372036854775806) }
+{
+    e.below == i64::MAX && e.above == -i64::MAX
+}
+
+/// Whether both ends are infinity.
+#[inline(always)]
+fn is_high(e: Ends) -> bool
+    ensures { result ≡ true → (e.below ≡ negsuc 9223372036854775806) × (e.above ≡ pos 9223372036854775807) }
+{
+    e.below == -i64::MAX && e.above == i64::MAX
+}
+
 impl Sums for Plain {
     ghost use Rattle.ts_meet.specs.Sides.{TakesPlain, plain_values};
     ghost use Rattle.ts_meet.specs.SideLaws.{cell_packs, plain_packs};
@@ -92,7 +140,7 @@ impl Sums for Plain {
             Operator::Fold(Op::Add) => Plus.of(first, second),
             Operator::Fold(Op::Max) => Greater.of(first, second),
             Operator::Fold(Op::Min) => Lesser.of(first, second),
-            Operator::Sub => Minus.of(first, second),
+            Operator::Sub => less(first, second),
         }
     }
 

@@ -8,4 +8,4 @@ pub returns-then-self : goal.returns-then-self
 returns-then-self c a b is under =
     let f = c.args.self in let k = c.args.left in let l = c.args.right in
     plain_within f k l a b c.requires.narrow
-    (subst (λ z. IsPlain f z (sides_of_peaks l)) c.side.ensures (subst (IsPlain f _) c.side-then-self.ensures (c.is_joined_plain.ensures.plain is))) under
+    (subst (λ z. IsPlain f z (sides_of_peaks l)) c.side.ensures (subst (IsPlain f _) c.side-then-self.ensures (c.is_joined_plain.ensures is))) under

@@ -18,7 +18,7 @@ joined_by-requires-clause-fits g c =
     plain_joined a b
     (subst AreSomeEnds (sym c.of-first.ensures) (lanes_some s n xs big c.requires.left))
     (subst AreSomeEnds (sym c.of-second.ensures) (lanes_some s n ys big c.requires.right)) c.args.self c.requires.worth
-    (c.is_joined_plain.ensures.plain c.if-is_joined_plain.true) c.requires.joined
+    (c.is_joined_plain.ensures c.if-is_joined_plain.true) c.requires.joined
 
 pub joined_by-requires-else-is_joined_plain-clause-fits : goal.joined_by-requires-else-is_joined_plain-clause-fits
 joined_by-requires-else-is_joined_plain-clause-fits g c =
@@ -34,7 +34,7 @@ returns-then-is_joined_plain g c =
     (plain_joined a b
     (subst AreSomeEnds (sym c.of-first.ensures) (lanes_some s n xs big c.requires.left))
     (subst AreSomeEnds (sym c.of-second.ensures) (lanes_some s n ys big c.requires.right)) c.args.self c.requires.worth
-    (c.is_joined_plain.ensures.plain c.if-is_joined_plain.true) c.requires.joined)
+    (c.is_joined_plain.ensures c.if-is_joined_plain.true) c.requires.joined)
     c.joined_by.result c.joined_by.ensures left right
     (subst (λ z. ArePackOf z left) (sym c.of-first.ensures) (lanes_pack s n xs big c.requires.left))
     (subst (λ z. ArePackOf z right) (sym c.of-second.ensures) (lanes_pack s n ys big c.requires.right))
