@@ -18,7 +18,7 @@ use Rattle.ts_sweep.specs.FrontLaws.{never_added}
 use Rattle.ts_sweep.specs.Lanes.{least}
 use Rattle.ts_sweep.specs.Packed.{upper, negated, ends, ends_span, max_ends, IsPackOf}
 use Rattle.ts_sweep.specs.UpperLaws.{low_or_not, high_or_not, upper_low, upper_high, upper_mid, upper_max, lower_max}
-use Rattle.ts_meet.specs.Sides.{StandFor, hull_of_lanes, marked_above, marked_below, marked_ends, no_ends}
+use Rattle.ts_meet.specs.Sides.{StandFor, first_end, hull_of_lanes, marked_above, marked_below, marked_ends, no_ends}
 
 abbrev pub span_from : Ext → Ext → Span
 span_from lo hi = record { lo = lo; hi = hi }
@@ -215,15 +215,57 @@ first_max x y h = grind (arith, ints)
 second_max : (x y : ℤ) → neg_ℤ x ≤ℤ y → int_max (neg_ℤ x) y ≡ y
 second_max x y h = grind (arith, ints)
 
-pub finite_kept : (k : Mark) (n : ℕ) (e : Ends) (s : Span) → n ≤ 4294967295 → e.below <ℤ pos 9223372036854775807 →
-    e.above <ℤ pos 9223372036854775807 → IsPackOf e s → IsPackOf e (marked_span k n s)
-finite_kept k n e s few below above p =
-    let are = are_numbers e.below e.above p.some.some below above in
-    let low = (number_marked k n e.below are.0 below).0 in let high = (number_marked k n e.above are.1 above).1 in
+-- a mark leaves two ends, of which the lower one is at most the upper one
+abbrev AreLeft : Mark → ℕ → ℤ → ℤ → Type 0
+AreLeft k n x y = (marked_below k n x ≡ x) × (marked_above k n y ≡ y) × (neg_ℤ x ≤ℤ y)
+
+first_left : (k : Mark) (n : ℕ) (x y : ℤ) → least <ℤ x → least <ℤ y → has_some (ends_span (ends x y)) ≡ true →
+    first_end k (ends x y) <ℤ pos 9223372036854775807 → AreLeft k n x y
+first_left Same n x y a b some h = elim (high_or_not y) [
+  | inl far ↦ (refl, refl, omega (arith, ints, a, far))
+  | inr near ↦ (refl, refl, (are_numbers x y some h near).2)
+]
+first_left Zero n x y a b some h = (
+  ap (λ b. cond b (pos 0) x) (le_false (pos 9223372036854775807) x h),
+  elim (high_or_not y) [
+    | inl far ↦ ap (λ b. cond b (pos 0) y) (le_false y (negsuc 9223372036854775806) (omega (arith, ints, far)))
+    | inr near ↦ (number_marked Zero n y (are_numbers x y some h near).1 near).1
+  ],
+  elim (high_or_not y) [
+    | inl far ↦ omega (arith, ints, a, far)
+    | inr near ↦ (are_numbers x y some h near).2
+  ],
+)
+first_left Cells n x y a b some h = (
+  elim (high_or_not x) [
+    | inl far ↦ ap (λ b. cond b (neg_ℤ (pos n)) x) (le_false x (negsuc 9223372036854775806) (omega (arith, ints, far)))
+    | inr near ↦ (number_marked Cells n x (are_numbers x y some near h).0 near).0
+  ],
+  ap (λ b. cond b (pos n) y) (le_false (pos 9223372036854775807) y h),
+  elim (high_or_not x) [
+    | inl far ↦ omega (arith, ints, b, far)
+    | inr near ↦ (are_numbers x y some near h).2
+  ],
+)
+
+pub first_kept : (k : Mark) (n : ℕ) (e : Ends) (s : Span) → n ≤ 4294967295 → first_end k e <ℤ pos 9223372036854775807 →
+    IsPackOf e s → IsPackOf e (marked_span k n s)
+first_kept k n e s few first p =
+    let are = first_left k n e.below e.above p.some.below p.some.above p.some.some first in
     let is : marked_ends k n e ≡ e =
-    ap (λ z. hull_of_lanes z (marked_above k n e.above)) low ∙ ap (hull_of_lanes e.below) high
+    ap (λ z. hull_of_lanes z (marked_above k n e.above)) are.0 ∙ ap (hull_of_lanes e.below) are.1
     ∙ same_ends (hull_of_lanes e.below e.above) e (first_max e.below e.above are.2) (second_max e.below e.above are.2) in
     subst (λ z. IsPackOf z (marked_span k n s)) is (marked_packs k n e s few p)
+
+finite_first : (k : Mark) (e : Ends) → e.below <ℤ pos 9223372036854775807 → e.above <ℤ pos 9223372036854775807 →
+    first_end k e <ℤ pos 9223372036854775807
+finite_first Same e below above = below
+finite_first Zero e below above = below
+finite_first Cells e below above = above
+
+pub finite_kept : (k : Mark) (n : ℕ) (e : Ends) (s : Span) → n ≤ 4294967295 → e.below <ℤ pos 9223372036854775807 →
+    e.above <ℤ pos 9223372036854775807 → IsPackOf e s → IsPackOf e (marked_span k n s)
+finite_kept k n e s few below above p = first_kept k n e s few (finite_first k e below above) p
 
 -- spans that are taken in
 

@@ -110,6 +110,12 @@ marked_below Same n x = x
 marked_below Zero n x = if int_le (pos 9223372036854775807) x then pos 0 else x
 marked_below Cells n x = if int_le x (negsuc 9223372036854775806) then neg_ℤ (pos n) else x
 
+-- the end that a mark changes first: the other is infinite inwards only where this one is infinite outwards
+abbrev pub first_end : Mark → Ends → ℤ
+first_end Same e = e.below
+first_end Zero e = e.below
+first_end Cells e = e.above
+
 -- the hull of the numbers in two lanes, the first as a lower end
 abbrev pub hull_of_lanes : ℤ → ℤ → Ends
 hull_of_lanes below above = ends (int_max below (neg_ℤ above)) (int_max (neg_ℤ below) above)

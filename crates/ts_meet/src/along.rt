@@ -20,7 +20,7 @@ ghost use Rattle.ts_sweep.specs.Sides.{BothEnds, lane_count, sides};
 use crate::fold::{CELLS, GREATEST, LEAST, SAME, SUM, ZERO, numbered, numbered_mark};
 use crate::gluing::Gluing;
 use crate::joints::{Joints, STATES};
-use crate::marked::{hull_of_both, joined, marked, nothing, span_of};
+use crate::marked::{hull_of_both, joined, marked_by, nothing, span_of};
 use crate::peaks::{Peaks, peaks_of};
 use crate::seam::{Any, Apart, Between, Both, PlainApart, Seam, Spread};
 use ts_automaton::{Mark, Op};
@@ -483,5 +483,5 @@ fn with_glued<S: Seam<N>, const M: u8, const N: usize>(
         return hull;
     }
     let glued = seam.glued(gluing, left, right);
-    joined(hull, marked(numbered_mark(M), glued, cells))
+    joined(hull, marked_by(numbered_mark(M), glued, cells))
 }

@@ -4,7 +4,7 @@ ghost use Rattle.std.specs.Prelude.{◌≡◌, ◌<ℤ◌, neg_ℤ, pos, true};
 ghost use Rattle.ts_base.specs.declared.span.Span.{Span};
 ghost use Rattle.ts_base.specs.Spans.{none_span, span_hull};
 ghost use Rattle.ts_automaton.specs.SpanRun.{marked_span};
-ghost use Rattle.ts_meet.specs.Sides.{StandFor, hull_of_lanes, marked_above, marked_below, marked_ends};
+ghost use Rattle.ts_meet.specs.Sides.{StandFor, first_end, hull_of_lanes, marked_above, marked_below, marked_ends};
 ghost use Rattle.ts_sweep.specs.Lanes.{least};
 ghost use Rattle.ts_sweep.specs.Packed.{IsPackOf, IsSomeEnds, max_ends, negated, upper};
 
@@ -43,6 +43,42 @@ fn are_finite(e: Ends) -> bool
     ensures { result ≡ true → (e.below <ℤ pos 9223372036854775807) × (e.above <ℤ pos 9223372036854775807) }
 {
     e.below < i64::MAX && e.above < i64::MAX
+}
+
+/// A mark that is a constant, on both ends, and the hull of the two: then one end tells whether it changes anything.
+#[inline(always)]
+pub(crate) fn marked_by(mark: Mark, e: Ends, n: u32) -> Ends
+    requires { IsSomeEnds e }
+    ensures { (s : Span) → IsPackOf e s → IsPackOf result (marked_span mark n s) }
+{
+    match mark {
+        Mark::Same => e,
+        Mark::Zero | Mark::Cells => with_known(mark, e, n),
+    }
+}
+
+/// A mark that is a constant and may change an infinite end, on both ends, and the hull of the two.
+#[inline(always)]
+fn with_known(mark: Mark, e: Ends, n: u32) -> Ends
+    requires { IsSomeEnds e }
+    ensures { (s : Span) → IsPackOf e s → IsPackOf result (marked_span mark n s) }
+{
+    if is_kept(mark, e) {
+        e
+    } else {
+        marked_ends(mark, e, n)
+    }
+}
+
+/// Whether the end that a mark changes first isn't infinite outwards: then it changes neither.
+#[inline(always)]
+fn is_kept(mark: Mark, e: Ends) -> bool
+    ensures { result ≡ true → first_end mark e <ℤ pos 9223372036854775807 }
+{
+    match mark {
+        Mark::Same | Mark::Zero => e.below < i64::MAX,
+        Mark::Cells => e.above < i64::MAX,
+    }
 }
 
 /// A mark that may change a number, on both ends, and the hull of the two.
