@@ -2,7 +2,7 @@
 use Rattle.std.proofs.Common.{◌≡◌, ◌⊎◌, ℕ, min, zero, suc, ◌+◌, ◌-◌, ◌<◌, ◌≤◌, ℤ, ◌<ℤ◌, pos, ◌↔◌, Bool, true, false, List, [], ◌∷◌, length, map, drop}
 use Rattle.std.proofs.Common.{Option, Some, None, option_map, slice_get, get_or, refl, sym, ◌∙◌, ap, subst, inl, inr, ⊎_elim, arith}
 use Rattle.std.proofs.lemmas.Option.{slice_get-get_or, slice_get-map, slice_get_read}
-use Rattle.std.specs.Prelude.{Contains, IsSome}
+use Rattle.std.specs.Prelude.{Contains, IsSome, is_some}
 use Rattle.std.specs.List.{AllByRecursion}
 use Rattle.ts_base.specs.declared.span.Span.{Span}
 use Rattle.ts_bound.specs.Looks.{is_looked}
@@ -23,7 +23,7 @@ use Rattle.ts_filter.specs.Excluded.{Refutes}
 use Rattle.ts_filter.specs.MachineSpans.{spans_of}
 use Rattle.ts_filter.specs.Question.{Excludes}
 use Rattle.ts_filter.specs.RefutedWorseDrop.{IsUsable}
-use Rattle.ts_filter.specs.TermDrops.{IsRefuting, IsFirstRefuting, IsRefutedOutside, MayHaveDrop, IsTermDrop, IsDropAt, IsDropUpTo, RefutesSome, cell_up_to, earlier_of, least_drop}
+use Rattle.ts_filter.specs.TermDrops.{IsRefuting, IsFirstRefuting, IsRefutedOutside, MayHaveDrop, IsTermDrop, IsDropAt, IsDropUpTo, AreLeft, IsFirstOrLeft, RefutesSome, cell_up_to, earlier_of, least_drop}
 use Rattle.ts_filter.proofs.CallLaws.{usable_only, usable_whole}
 use Rattle.ts_filter.proofs.CellLaws.{left_is}
 use Rattle.ts_filter.proofs.Looked.{value_outside}
@@ -35,12 +35,6 @@ use Rattle.ts_filter.proofs.SoundLaws.{each_at}
 pub rising_parts : (v : ℤ) (rest : List ℤ) → IsRising (v ∷ rest) → AllByRecursion (λ y. v <ℤ y) rest × IsRising rest
 unfolding IsRising
 rising_parts v rest h = h
-
--- what is known while the values of a cell are gone through: those left have every drop there is
-pub record AreLeft (rs : List Require) (term : ℕ) (a : Automata) (b : Box) (k : ℕ) (left : List ℤ) : Type 0 where
-  pub inside : (u : ℤ) → Contains left u → Contains (values_at k b) u
-  pub rises : IsRising left
-  pub ahead : (t : Removal) → IsDropAt rs term a b k t → Contains left t.value
 
 module _ (rs : List Require) (term : ℕ) (a : Automata) (b : Box) (k : ℕ) where
   there : (t : Removal) → IsDropAt rs term a b k t → Contains (values_at k b) t.value
@@ -100,28 +94,48 @@ module _ (rs : List Require) (term : ℕ) (a : Automata) (b : Box) (k : ℕ) whe
   pub all_left : IsRising (values_at k b) → AreLeft rs term a b k (values_at k b)
   all_left rises = record { inside = λ u c. c; rises = rises; ahead = there }
 
--- values whose spans have what is asked are passed over
-module _ (rs : List Require) (term : ℕ) (a : Automata) (b : Box) (k : ℕ) (ends : Sides) (asked : Question)
-    (tells : (s : Span) → Excludes asked s ↔ RefutesSome rs term s) where
-  left_along : (d from : ℕ) → from + d ≤ length (values_at k b) → AreMet asked (at_cell a b k ends) from (from + d) →
-      AreLeft rs term a b k (drop from (values_at k b)) → AreLeft rs term a b k (drop (from + d) (values_at k b))
-  left_along zero from within met left = subst (λ i. AreLeft rs term a b k (drop i (values_at k b))) (let e : from ≡ from + 0 = omega arith in e) left
-  left_along (suc d) from within met left =
+-- values that aren't dropped are passed over
+module _ (rs : List Require) (term : ℕ) (a : Automata) (b : Box) (k : ℕ) where
+  abbrev pub NoneBetween : ℕ → ℕ → Type 0
+  NoneBetween from to =
+      (i : ℕ) (v : ℤ) → from ≤ i → i < to → slice_get (values_at k b) i ≡ Some v → IsFirstRefuting rs term (value_span a k b v) None
+
+  left_along : (d from : ℕ) → from + d ≤ length (values_at k b) → NoneBetween from (from + d) → AreLeft rs term a b k (drop from (values_at k b)) →
+      AreLeft rs term a b k (drop (from + d) (values_at k b))
+  left_along zero from within none left = subst (λ i. AreLeft rs term a b k (drop i (values_at k b))) (let e : from ≡ from + 0 = omega arith in e) left
+  left_along (suc d) from within none left =
       let all = values_at k b in let v = get_or all from (pos 0) in
       let lt : from < length all = omega (arith, within) in
       let is : slice_get all from ≡ Some v = slice_get-get_or all from (pos 0) lt in
       let e : (from + 1) + d ≡ from + suc d = omega arith in
       subst (λ i. AreLeft rs term a b k (drop i all)) e
-      (left_along d (from + 1) (omega (arith, within)) (λ i first last. met i (omega (arith, first)) (omega (arith, last)))
-      (fewer_left rs term a b k (drop from all) (drop (from + 1) all) v left (left_is all from v lt is)
-      (λ j h. met from (omega arith) (omega arith) v is ((tells (value_span a k b v)).1 (j, h)))))
+      (left_along d (from + 1) (omega (arith, within)) (λ i u first last at. none i u (omega (arith, first)) (omega (arith, last)) at)
+      (fewer_left rs term a b k (drop from all) (drop (from + 1) all) v left (left_is all from v lt is) (none from v (omega arith) (omega arith) is)))
 
-  pub left_met : (from to : ℕ) → from ≤ to → to ≤ length (values_at k b) → AreMet asked (at_cell a b k ends) from to →
+  pub left_between : (from to : ℕ) → from ≤ to → to ≤ length (values_at k b) → NoneBetween from to →
       AreLeft rs term a b k (drop from (values_at k b)) → AreLeft rs term a b k (drop to (values_at k b))
-  left_met from to le within met left =
+  left_between from to le within none left =
       let e : from + (to - from) ≡ to = omega (arith, le) in
       subst (λ i. AreLeft rs term a b k (drop i (values_at k b))) e
-      (left_along (to - from) from (omega (arith, e, within)) (subst (AreMet asked (at_cell a b k ends) from) (sym e) met) left)
+      (left_along (to - from) from (omega (arith, e, within)) (subst (NoneBetween from) (sym e) none) left)
+
+  -- those whose spans have what is asked
+  pub left_met : (ends : Sides) (asked : Question) → ((s : Span) → Excludes asked s ↔ RefutesSome rs term s) → (from to : ℕ) → from ≤ to →
+      to ≤ length (values_at k b) → AreMet asked (at_cell a b k ends) from to → AreLeft rs term a b k (drop from (values_at k b)) →
+      AreLeft rs term a b k (drop to (values_at k b))
+  left_met ends asked tells from to le within met left =
+      left_between from to le within (λ i v first last at j h. met i first last v at ((tells (value_span a k b v)).1 (j, h))) left
+
+  -- the first drop was found, or none is left
+  pub first_is : (left : List ℤ) (found : Option Removal) → IsFirstOrLeft rs term a b k left found → IsSome found →
+      IsFirstOf (IsDropAt rs term a b k) found
+  first_is left None h some = absurd (let z : ◌≡◌ {A = Bool} false true = some in cc)
+  first_is left (Some r) h some = h
+
+  pub left_is_known : (left : List ℤ) (found : Option Removal) → IsFirstOrLeft rs term a b k left found → is_some found ≡ false →
+      AreLeft rs term a b k left
+  left_is_known left None h none = h
+  left_is_known left (Some r) h none = absurd (let z : ◌≡◌ {A = Bool} true false = none in cc)
 
 module _ (rs : List Require) (term : ℕ) (a : Automata) (b : Box) where
   -- none at the first cells

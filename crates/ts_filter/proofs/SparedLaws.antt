@@ -1,5 +1,5 @@
 -- What is known of drops stays right after each mark, and what is known of all terms is known of each machine.
-use Rattle.std.proofs.Common.{◌≡◌, ◌⊎◌, ℕ, zero, suc, ◌+◌, ◌-◌, ◌<◌, ◌≤◌, ℤ, ◌<ℤ◌, ◌≤ℤ◌, Bool, true, false, List, [], ◌∷◌, length, map, drop, pos, replicate, set, get_or}
+use Rattle.std.proofs.Common.{◌≡◌, ◌⊎◌, ℕ, zero, suc, ◌+◌, ◌-◌, ◌<◌, ◌≤◌, ℤ, ◌<ℤ◌, ◌≤ℤ◌, true, false, List, [], ◌∷◌, length, map, drop, pos, replicate, set, get_or}
 use Rattle.std.proofs.Common.{Option, Some, None, unwrap_or, slice_get, refl, sym, ◌∙◌, ap, subst, inl, inr, ⊎_elim, arith}
 use Rattle.std.proofs.lemmas.Int.{ints}
 use Rattle.std.proofs.lemmas.List.{length-map, length-replicate, length-set}
@@ -21,11 +21,11 @@ use Rattle.ts_filter.specs.KeptCells.{AreFree, AreKept, AreSized, IsAliveTerm, I
 use Rattle.ts_filter.specs.MachineSpans.{spans_of}
 use Rattle.ts_filter.specs.OfTerm.{OfTerm}
 use Rattle.ts_filter.specs.RefutedWorseDrop.{Spans, IsDrop}
-use Rattle.ts_filter.specs.TermDrops.{IsDropAt, IsFirstRefuting, IsRefuting, IsRefutedOutside}
+use Rattle.ts_filter.specs.TermDrops.{AreLeft, IsDropAt, IsRefuting, IsRefutedOutside}
 use Rattle.ts_filter.proofs.BoxParts.{domain_at}
 use Rattle.ts_filter.proofs.CallLaws.{to_refuted}
 use Rattle.ts_filter.proofs.CellLaws.{left_is}
-use Rattle.ts_filter.proofs.DropLaws.{AreLeft, NoneUpTo, all_left, fewer_left, to_drop}
+use Rattle.ts_filter.proofs.DropLaws.{NoneUpTo, all_left, fewer_left, left_between, to_drop}
 use Rattle.ts_filter.proofs.SoundLaws.{clash}
 use Rattle.ts_filter.proofs.TermsAsked.{looks_of}
 
@@ -356,21 +356,22 @@ pub nothing_told : {A : Type 0} (knows : List Require → Spans → Box → A �
 nothing_told knows rs term a b x h looks =
     let ms = replicate (suc term) a in of_machines knows rs ms b x (h (spans_of ms)) term a (last_of_equals term a) looks
 
--- what is told of the values from a place on
+-- what is told of the values from one on, up to a number
 
-abbrev pub FreeFrom : List Require → ℕ → Automata → Box → ℕ → ℕ → Told → Type 0
-FreeFrom rs term a b k i told =
-    IsTrue told.free → (j : ℕ) (w : ℤ) → i ≤ j → slice_get (values_at k b) j ≡ Some w → w ≤ℤ told.to → IsFirstRefuting rs term (value_span a k b w) None
+pub past_value : (values : List ℤ) (i n : ℕ) (v limit : ℤ) → AreAbove values n limit → slice_get values i ≡ Some v → v ≤ℤ limit → i < n
+past_value values i n v limit above here up = by_order (split i n)
+  where
+    split : (i n : ℕ) → (i < n) ⊎ (n ≤ i)
+    split i n = grind arith
 
-pub not_free : (rs : List Require) (term : ℕ) (a : Automata) (b : Box) (k i : ℕ) (told : Told) → told.free ≡ false → FreeFrom rs term a b k i told
-not_free rs term a b k i told is_not free = absurd (let z : ◌≡◌ {A = Bool} false true = sym is_not ∙ free in cc)
+    by_order : (i < n) ⊎ (n ≤ i) → i < n
+    by_order (inl l) = l
+    by_order (inr l) = absurd (let more = above i v l here in omega (arith, ints, more, up))
 
-pub free_later : (rs : List Require) (term : ℕ) (a : Automata) (b : Box) (k i later : ℕ) (told : Told) → i ≤ later → FreeFrom rs term a b k i told →
-    FreeFrom rs term a b k later told
-free_later rs term a b k i later told from h free j w up at within = h free j w (let u = up in omega (arith, from, u)) at within
-
-pub free_on : (rs : List Require) (term : ℕ) (a : Automata) (b : Box) (k i : ℕ) (v : ℤ) (told new : Told) → IsRising (values_at k b) →
-    slice_get (values_at k b) i ≡ Some v → FreeFrom rs term a b k i told → (new ≡ told) ⊎ AreFree rs term a b k v new → FreeFrom rs term a b k i new
-free_on rs term a b k i v told new rises here h (inl e) = subst (FreeFrom rs term a b k i) (sym e) h
-free_on rs term a b k i v told new rises here h (inr are) = λ free j w up at within.
-    are free w (at_contains (values_at k b) j w at) (up_to_place (values_at k b) i j v w rises (let u = up in omega (arith, u)) here at) within
+pub left_free : (rs : List Require) (term : ℕ) (a : Automata) (b : Box) (k from to : ℕ) (v : ℤ) (told : Told) → from ≤ to → to ≤ length (values_at k b) →
+    IsRising (values_at k b) → slice_get (values_at k b) from ≡ Some v → AreUpTo (values_at k b) to told.to → AreFree rs term a b k v told →
+    AreLeft rs term a b k (drop from (values_at k b)) → IsTrue told.free → AreLeft rs term a b k (drop to (values_at k b))
+left_free rs term a b k from to v told le within rises here up are left free =
+    left_between rs term a b k from to le within
+    (λ i w first last at. are free w (at_contains (values_at k b) i w at)
+    (up_to_place (values_at k b) from i v w rises (let f = first in omega (arith, f)) here at) (up i w last at)) left

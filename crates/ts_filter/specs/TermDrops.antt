@@ -6,9 +6,11 @@ use Rattle.std.specs.Ordering.{int_eq}
 use Rattle.ts_base.specs.declared.span.Span.{Span}
 use Rattle.ts_bound.specs.Looks.{is_looked}
 use Rattle.ts_bound.specs.TermSpans.{Automata, inner_value_span, term_span, value_span, IsUsable}
+use Rattle.ts_domain.specs.Values.{IsRising}
 use Rattle.ts_model.specs.declared.model.Require.{Require}
 use Rattle.ts_filter.specs.declared.drops.Removal.{Removal}
 use Rattle.ts_filter.specs.Boxes.{Box, HasCell, values_at}
+use Rattle.ts_filter.specs.Drops.{IsFirstOf}
 use Rattle.ts_filter.specs.Excluded.{Refutes}
 use Rattle.ts_filter.specs.RefutedWorseDrop.{IsRequirement}
 
@@ -44,6 +46,18 @@ pub record IsTermDrop (requirements : List Require) (term : ℕ) (a : Automata) 
 -- the drop is at cell k, and by a requirement of the term whose machine this is
 abbrev pub IsDropAt : List Require → ℕ → Automata → Box → ℕ → Removal → Type 0
 IsDropAt requirements term a b k r = (r.cell ≡ k) × IsTermDrop requirements term a b r
+
+-- these are the values of cell k that are left when others were found not to be dropped by these requirements
+pub record AreLeft (requirements : List Require) (term : ℕ) (a : Automata) (b : Box) (k : ℕ)
+    (left : List ℤ) : Type 0 where
+  pub inside : (v : ℤ) → Contains left v → Contains (values_at k b) v
+  pub rises : IsRising left
+  pub ahead : (r : Removal) → IsDropAt requirements term a b k r → Contains left r.value
+
+-- it is the first drop at cell k; if there is none, these values are left
+abbrev pub IsFirstOrLeft : List Require → ℕ → Automata → Box → ℕ → List ℤ → Option Removal → Type 0
+IsFirstOrLeft requirements term a b k left None = AreLeft requirements term a b k left
+IsFirstOrLeft requirements term a b k left (Some r) = IsFirstOf (IsDropAt requirements term a b k) (Some r)
 
 -- the drop is at a cell up to cell `to`, and by a requirement of the term whose machine this is
 abbrev pub IsDropUpTo : List Require → ℕ → Automata → Box → ℕ → Removal → Type 0

@@ -117,8 +117,9 @@ impl<'a> AllTables<'a> {
         )
     }
 
-    /// How many questions were put to the tables of all terms, each about one cell. No answer depends on it: it is for
-    /// tests and for measuring, which see by it what was spared.
+    /// How many questions were put to the tables of all terms, each about one cell, and about how many values of cells
+    /// drops were looked for by spans, in all. No answer depends on it: it is for tests and for measuring, which see by
+    /// it what was spared.
     pub fn asked(&self) -> u64 {
         let mut count: u64 = 0;
         for tables in &self.each {

@@ -226,9 +226,17 @@ impl<'a> BoxTables<'a> {
         Ok(())
     }
 
-    /// How many questions were put to these tables, each about one cell; after 2^64 it starts again at 0.
+    /// How many questions were put to these tables, each about one cell, and about how many values of cells drops were
+    /// looked for by spans, in all; after 2^64 it starts again at 0.
     pub(crate) fn questions(&self) -> u64 {
         self.questions
+    }
+
+    /// Counts so many values of which spans are asked whether they are dropped.
+    pub(crate) fn count_values(&mut self, count: u64)
+        ensures { self.new ≡ self.old }
+    {
+        self.questions = self.questions.wrapping_add(count);
     }
 
     /// Whether the machine can't be split.

@@ -1,10 +1,10 @@
 //! Values that may be taken out of their cells.
 
 ghost use Rattle.std.specs.Prelude.{◌≡◌, ◌+◌, ◌<◌, ◌≤◌, ◌<ℤ◌, ◌≤ℤ◌, ℕ, ℤ, IfOk, Some, length, map, option_map, slice_get};
-ghost use Rattle.std.specs.Prelude.{◌⊎◌, Contains, IsTrue, None};
+ghost use Rattle.std.specs.Prelude.{Contains, IsTrue, drop};
 ghost use Rattle.std.specs.List.{AllByRecursion};
 ghost use Rattle.ts_base.specs.Limits.{too_many};
-ghost use Rattle.ts_bound.specs.TermSpans.{IsUsable, LooksIn, automata_of, value_span};
+ghost use Rattle.ts_bound.specs.TermSpans.{IsUsable, LooksIn, automata_of};
 ghost use Rattle.ts_domain.specs.BoxSeries.{IsBox};
 ghost use Rattle.ts_domain.specs.Values.{IsDomain};
 ghost use Rattle.ts_filter.specs.Drops.{IsFirstDrop, IsFirstOf};
@@ -14,8 +14,8 @@ ghost use Rattle.ts_filter.specs.Question.{AsksEach};
 ghost use Rattle.ts_filter.specs.KeptCells.{AreFree, IsKeptIfKnown, IsSparedAt, Tells};
 ghost use Rattle.ts_filter.specs.KnownRows.{AreKnown, StillKnown};
 ghost use Rattle.ts_filter.specs.MachineSpans.{spans_of};
-ghost use Rattle.ts_filter.specs.TermDrops.{IsDropAt, IsDropUpTo, IsFirstRefuting, IsRefutedOutside, MayHaveDrop};
-ghost use Rattle.ts_filter.specs.TermDrops.{cell_up_to, comes_before, earlier_of, least_drop};
+ghost use Rattle.ts_filter.specs.TermDrops.{AreLeft, IsDropAt, IsDropUpTo, IsFirstOrLeft, IsRefutedOutside};
+ghost use Rattle.ts_filter.specs.TermDrops.{MayHaveDrop, cell_up_to, comes_before, earlier_of, least_drop};
 
 use crate::box_tables::BoxTables;
 use crate::cell_hulls::CellHulls;
@@ -262,7 +262,9 @@ impl<'a> BoxTables<'a> {
         }
         let asked = Question::each_met(own);
         self.make_at(alloc, asked, k, cells)?;
-        Ok(drop_in_cell(&self.hulls_at(k, cells), asked, own, limit, spares))
+        let (found, count) = drop_in_cell(&self.hulls_at(k, cells), asked, own, limit, spares);
+        self.count_values(count);
+        Ok(found)
     }
 
     /// How many cells come before the first that may be used: all but the last where the machine can't be split.
@@ -280,94 +282,100 @@ impl<'a> BoxTables<'a> {
     }
 }
 
-/// The first of the drops at one cell by these requirements, none of which is of a value up to the limit. Most values
-/// are passed over without being found: pairs of states settle that none of the requirements is refuted there.
+/// The first of the drops at one cell by these requirements, none of which is of a value up to the limit; and how many
+/// values spans were asked about. They are asked about values alone of which it isn't told before that none is dropped.
 fn drop_in_cell<S: Spares>(
     hulls: &CellHulls<'_>,
     asked: Question<'_>,
     own: TermRequirements<'_>,
     limit: i64,
     spares: &S,
-) -> Option<Removal>
+) -> (Option<Removal>, u64)
     requires usable { IsUsable hulls.now.machine hulls.now.cell hulls.now.cells }
     requires serves { Serves hulls.now asked }
     requires asked { AsksEach own asked }
     requires spared { IsSparedAt own.all.now own.term hulls.now.machine hulls.now.cells hulls.now.cell limit }
     requires spares { Tells S.knows own.all.now own.term hulls.now.machine hulls.now.cells spares.now }
     ensures { IsFirstOf (IsDropAt own.entry.all.now own.entry.term
-        hulls.now.machine hulls.now.cells hulls.now.cell) result }
+        hulls.now.machine hulls.now.cells hulls.now.cell) result.0 }
 {
-    let cell = hulls.cell();
+    let mut count = 0;
     let values = hulls.values();
-    if values.size() < 2 {
-        return None;
+    let size = values.size();
+    if size < 2 {
+        return (None, count);
     }
-    let above = count_up_to(values, limit);
-    let mut told = Told {
-        free: false,
-        to: limit,
-    };
-    let mut i = hulls.settled_to(asked, above, values.size());
-    while i < values.size() {
+    let mut i = count_up_to(values, limit);
+    while i < size {
         let value = values.nth(i);
-        told = told_of(told, hulls, own, value, spares);
-        if let Some(require) = first_dropping(hulls, asked, own, i, value, told.free) {
-            return Some(Removal {
-                cell,
-                value,
-                require,
-            });
+        let told = told_of(hulls, own, value, spares);
+        let to = count_up_to(values, told.to);
+        let (found, more) = first_between(hulls, asked, own, i, to, told.free);
+        count = count.wrapping_add(more);
+        if found.is_some() {
+            return (found, count);
         }
-        i = hulls.settled_further(asked, i + 1, values.size());
+        i = to;
     }
-    None
+    (None, count)
 }
 
-/// What is known of the value `v` of the cell, and of those after it: what was told of the one before, as far as that
-/// goes, or what is told of this one.
-fn told_of<S: Spares>(
-    told: Told,
-    hulls: &CellHulls<'_>,
-    own: TermRequirements<'_>,
-    v: i64,
-    spares: &S,
-) -> Told
+/// What is known of the value `v` of the cell, and of those after it.
+fn told_of<S: Spares>(hulls: &CellHulls<'_>, own: TermRequirements<'_>, v: i64, spares: &S) -> Told
     requires usable { IsUsable hulls.now.machine hulls.now.cell hulls.now.cells }
     requires many { 2 ≤ length (values_at hulls.now.cell hulls.now.cells) }
     requires value { Contains (values_at hulls.now.cell hulls.now.cells) v }
     requires spares { Tells S.knows own.all.now own.term hulls.now.machine hulls.now.cells spares.now }
     ensures to { v ≤ℤ result.to }
-    ensures told { (result ≡ told) ⊎ AreFree own.entry.all.now own.entry.term
+    ensures told { AreFree own.entry.all.now own.entry.term
         hulls.now.machine hulls.now.cells hulls.now.cell v result }
 {
-    if v <= told.to {
-        return told;
-    }
     spares.tell(own.all, own.term, hulls.cell(), v, hulls.cells)
 }
 
-/// The number of the first of these requirements that drops the value `v` at place `i` of the cell. No span is asked
-/// for where it is known that none does.
-fn first_dropping(
+/// The first of the drops at one cell, if it is of a value at the places from `from` on, before `to`; none is of one
+/// before these. And of how many values spans are asked: of none where it is known that none before `to` is dropped.
+/// Most are passed over without being found: pairs of states settle that none of the requirements is refuted there.
+fn first_between(
     hulls: &CellHulls<'_>,
     asked: Question<'_>,
     own: TermRequirements<'_>,
-    i: u64,
-    v: i64,
+    from: u64,
+    to: u64,
     free: bool,
-) -> Option<u32>
+) -> (Option<Removal>, u64)
+    requires usable { IsUsable hulls.now.machine hulls.now.cell hulls.now.cells }
+    requires many { 2 ≤ length (values_at hulls.now.cell hulls.now.cells) }
     requires serves { Serves hulls.now asked }
     requires asked { AsksEach own asked }
-    requires value { slice_get (values_at hulls.now.cell hulls.now.cells) i ≡ Some v }
-    requires free { IsTrue free → IsFirstRefuting own.all.now own.term
-        (value_span hulls.now.machine hulls.now.cell hulls.now.cells v) None }
-    ensures { IsFirstRefuting own.entry.all.now own.entry.term
-        (value_span hulls.now.machine hulls.now.cell hulls.now.cells v) result }
+    requires order { from ≤ to }
+    requires inside { to ≤ length (values_at hulls.now.cell hulls.now.cells) }
+    requires left { AreLeft own.all.now own.term hulls.now.machine hulls.now.cells hulls.now.cell
+        (drop from (values_at hulls.now.cell hulls.now.cells)) }
+    requires free { IsTrue free → AreLeft own.all.now own.term hulls.now.machine hulls.now.cells hulls.now.cell
+        (drop to (values_at hulls.now.cell hulls.now.cells)) }
+    ensures { IsFirstOrLeft own.entry.all.now own.entry.term hulls.now.machine hulls.now.cells hulls.now.cell
+        (drop to (values_at hulls.now.cell hulls.now.cells)) result.0 }
 {
     if free {
-        return None;
+        return (None, 0);
     }
-    hulls.first_refuted(asked, own, i, v)
+    let count = to - from;
+    let values = hulls.values();
+    let mut i = hulls.settled_to(asked, from, to);
+    while i < to {
+        let value = values.nth(i);
+        if let Some(require) = hulls.first_refuted(asked, own, i, value) {
+            let drop = Removal {
+                cell: hulls.cell(),
+                value,
+                require,
+            };
+            return (Some(drop), count);
+        }
+        i = hulls.settled_further(asked, i + 1, to);
+    }
+    (None, count)
 }
 
 /// How many values come first that are at most the limit. It may lie in a gap between two of them.
@@ -380,6 +388,9 @@ fn count_up_to(values: &Domain, limit: i64) -> u64
     let size = values.size();
     if values.contains(limit) {
         return values.place_of(limit) + 1;
+    }
+    if values.ends().high <= limit {
+        return size;
     }
     for i in 0..size {
         if limit < values.nth(i) {

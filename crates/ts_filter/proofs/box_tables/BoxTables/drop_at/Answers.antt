@@ -19,6 +19,6 @@ returns-then-is_single-clause-found g c =
     no_drop_of_one own.all.now own.term c.args.self.now.machine c.args.cells.now.present c.args.k
     (ap length (sym c.cell.ensures) ∙ c.is_single.ensures.0 c.if-is_single.true)
 
-pub drop_in_cell-requires-clause-serves : goal.drop_in_cell-requires-clause-serves
-drop_in_cell-requires-clause-serves g c =
+pub drop_in_cell-found-requires-clause-serves : goal.drop_in_cell-found-requires-clause-serves
+drop_in_cell-found-requires-clause-serves g c =
     subst (λ (t : AtCell). Serves t c.each_met-asked.result) (sym c.hulls_at.ensures) c.in_ok-make_at.ensures.serves
