@@ -2,7 +2,8 @@
 use Rattle.std.proofs.Common.{◌≡◌, ℕ, ◌+◌, ◌-◌, ◌<◌, ◌≤◌, ℤ, ◌≤ℤ◌, Bool, true, false, not, List, length, Some, slice_get, ⊎_elim, refl, sym, ◌∙◌, ap, subst, arith}
 use Rattle.std.proofs.lemmas.Int.{ints}
 use Rattle.std.proofs.lemmas.Option.{slice_get_within}
-use Rattle.std.specs.Prelude.{Contains, IsTrue}
+use Rattle.std.specs.Int.{int_min}
+use Rattle.std.specs.Prelude.{Contains, IsTrue, cond, int_lt}
 use Rattle.ts_base.specs.Limits.{IsCellValue, most_cells}
 use Rattle.ts_base.specs.Windows.{LooksInside}
 use Rattle.ts_bound.specs.Looks.{count_looked, is_looked, place_in}
@@ -89,6 +90,11 @@ LetBelow rs b w term k v to n =
 
 pub let_none : (rs : List Require) (b : Box) (w : Witnesses) (term k : ℕ) (v to : ℤ) → LetBelow rs b w term k v to 0
 let_none rs b w term k v to s i r h below is on x from up drop = omega (arith, below)
+
+-- what is at most two numbers is at most the lesser of them
+pub up_to_both : (v a b less : ℤ) → less ≡ int_min a b → v ≤ℤ a → v ≤ℤ b → v ≤ℤ less
+up_to_both v a b less e first second =
+    subst (λ z. v ≤ℤ z) (sym e) (elim (int_lt b a) as (λ t. v ≤ℤ cond t b a) [ true ↦ second | false ↦ first ])
 
 pub let_next : (rs : List Require) (b : Box) (w : Witnesses) (term k : ℕ) (v to one less : ℤ) (n : ℕ) → less ≤ℤ to → less ≤ℤ one →
     LetBelow rs b w term k v to n →

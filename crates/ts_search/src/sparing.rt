@@ -1,6 +1,6 @@
 //! What witnesses show of values that would be asked about by spans.
 
-ghost use Rattle.std.specs.Prelude.{◌≡◌, ◌⊎◌, ◌+◌, ◌≤ℤ◌, ℤ, Contains, IsTrue, Some, slice_get};
+ghost use Rattle.std.specs.Prelude.{◌≡◌, ◌+◌, ◌≤ℤ◌, ℤ, Contains, IsTrue, Some, slice_get};
 ghost use Rattle.ts_filter.specs.Boxes.{HasCell, values_at};
 ghost use Rattle.ts_filter.specs.RefutedWorseDrop.{IsDrop, Spans};
 ghost use Rattle.ts_model.specs.declared.model.Require.{Require};
@@ -22,7 +22,7 @@ impl<'a> Spares for Witnesses<'a> {
             if !one.free {
                 return one;
             }
-            to = lesser(to, one.to);
+            to = to.min(one.to);
         }
         Told { free: true, to }
     }
@@ -62,13 +62,4 @@ impl<'a> Witnesses<'a> {
         }
         self.each[i].tell(r, k, v, cells.cells())
     }
-}
-
-/// The lesser of two numbers.
-fn lesser(a: i64, b: i64) -> i64
-    ensures first { result ≤ℤ a }
-    ensures second { result ≤ℤ b }
-    ensures either { (result ≡ a) ⊎ (result ≡ b) }
-{
-    if a < b { a } else { b }
 }

@@ -1,6 +1,6 @@
-use Rattle.std.proofs.Common.{rules, pos, arith, w64, to_z, of_z}
+use Rattle.std.proofs.Common.{rules, pos, arith, w64, to_z, of_z, ◌≤ℤ◌, sym, subst}
 use Rattle.std.proofs.lemmas.Int.{ints, to_z-of_z}
-use Rattle.ts_search.proofs.FreeValues.{all_let, is_so, let_next, let_none}
+use Rattle.ts_search.proofs.FreeValues.{all_let, is_so, let_next, let_none, up_to_both}
 use Rattle.ts_search.proofs.sparing.WitnessesSpares.tell.Goals as goal
 
 pub loop-i-init : goal.loop-i-init
@@ -13,15 +13,17 @@ pub loop-i-preserved : goal.loop-i-preserved
 loop-i-preserved c =
     let to_is = to_z-of_z w64 c.loop-i.to (search rules) in
     let one_is = to_z-of_z w64 c.tell_by_one-one.result.to (search rules) in
-    let less_is = to_z-of_z w64 c.lesser-to.result (search rules) in
+    let less_is = to_z-of_z w64 c.min-to.result (search rules) in
     let v_is = to_z-of_z w64 c.args.v c.ranges.v in
-    let first = c.lesser-to.ensures.first in let second = c.lesser-to.ensures.second in let either = c.lesser-to.ensures.either in
+    let least = c.min-to.ensures in
     let one = c.tell_by_one-one.ensures.to in let to = c.loop-i.invariant.0 in (
-      omega (arith, ints, either, one, to, to_is, one_is, less_is, v_is),
+      subst (λ z. to_z w64 (of_z w64 c.args.v) ≤ℤ z) (sym less_is)
+          (up_to_both (to_z w64 (of_z w64 c.args.v)) (to_z w64 c.loop-i.to-bits) (to_z w64 (of_z w64 c.tell_by_one-one.result.to)) c.min-to.result
+          least.value to (subst (λ z. to_z w64 (of_z w64 c.args.v) ≤ℤ z) (sym one_is) one)),
       let_next c.args.requirements.now c.args.cells.now.present c.args.self.now c.args.term c.args.k (to_z w64 (of_z w64 c.args.v))
           (to_z w64 c.loop-i.to-bits)
-          c.tell_by_one-one.result.to (to_z w64 (of_z w64 c.lesser-to.result)) c.loop-i.i
-          (omega (arith, ints, first, to_is, less_is)) (omega (arith, ints, second, one_is, less_is)) c.loop-i.invariant.1
+          c.tell_by_one-one.result.to (to_z w64 (of_z w64 c.min-to.result)) c.loop-i.i
+          (omega (arith, ints, least, to_is, one_is, less_is)) (omega (arith, ints, least, to_is, one_is, less_is)) c.loop-i.invariant.1
           (c.tell_by_one-one.ensures.free (is_so c.tell_by_one-one.result.free c.if-not-one.false)),
     )
 
