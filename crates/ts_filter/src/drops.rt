@@ -315,9 +315,39 @@ fn drop_in_cell<S: Spares>(
         if found.is_some() {
             return (found, count);
         }
-        i = to;
+        i = after_run(hulls, asked, own, i, to, size);
     }
     (None, count)
+}
+
+/// The place to go on from after the values at the places from `from` on, before `to`. Where that was one value alone,
+/// as where a term reads values, pairs of states pass over more at once than a witness tells of one by one.
+fn after_run(
+    hulls: &CellHulls<'_>,
+    asked: Question<'_>,
+    own: TermRequirements<'_>,
+    from: u64,
+    to: u64,
+    size: u64,
+) -> u64
+    requires usable { IsUsable hulls.now.machine hulls.now.cell hulls.now.cells }
+    requires serves { Serves hulls.now asked }
+    requires asked { AsksEach own asked }
+    requires order { from ≤ to }
+    requires inside { to ≤ size }
+    requires size { size ≡ length (values_at hulls.now.cell hulls.now.cells) }
+    requires left { AreLeft own.all.now own.term hulls.now.machine hulls.now.cells hulls.now.cell
+        (drop to (values_at hulls.now.cell hulls.now.cells)) }
+    ensures from { to ≤ result }
+    ensures to { result ≤ size }
+    ensures left { AreLeft own.entry.all.now own.entry.term hulls.now.machine hulls.now.cells hulls.now.cell
+        (drop result (values_at hulls.now.cell hulls.now.cells)) }
+{
+    let _own = own;
+    if to - from > 1 {
+        return to;
+    }
+    hulls.settled_to(asked, to, size)
 }
 
 /// What is known of the value `v` of the cell, and of those after it.

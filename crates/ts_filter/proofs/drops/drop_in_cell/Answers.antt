@@ -65,14 +65,34 @@ returns-then-is_some g c =
     first_is own.all.now own.term t.machine t.cells t.cell (drop c.count_up_to-to.result (values_at t.cell t.cells)) c.first_between-found.result.0
     c.first_between-found.ensures (sym c.is_some.ensures ∙ c.if-is_some.true)
 
+pub after_run-i-requires-clause-order : goal.after_run-i-requires-clause-order
+after_run-i-requires-clause-order g c =
+    let fits : SFits w64 c.nth-value.result = search rules in
+    let v_is = to_z-of_z w64 c.nth-value.result fits in
+    let to_is = to_z-of_z w64 c.told_of-told.result.to (search rules) in
+    let up : c.nth-value.result ≤ℤ to_z w64 (of_z w64 c.told_of-told.result.to) =
+    let told = c.told_of-told.ensures.to in omega (arith, ints, told, v_is, to_is) in
+    let less = past_value c.values-values.result.now c.loop-i.i c.count_up_to-to.result c.nth-value.result (to_z w64 (of_z w64 c.told_of-told.result.to))
+    c.count_up_to-to.ensures.above c.nth-value.ensures up in omega (arith, less)
+
+pub after_run-i-requires-clause-inside : goal.after_run-i-requires-clause-inside
+after_run-i-requires-clause-inside g c =
+    let to = c.count_up_to-to.ensures.to in let size = c.size-size.ensures.size in omega (arith, to, size)
+
+pub after_run-i-requires-clause-size : goal.after_run-i-requires-clause-size
+after_run-i-requires-clause-size g c =
+    let long = ap length c.values-values.ensures.values in let size = c.size-size.ensures.size in omega (arith, long, size)
+
+pub after_run-i-requires-clause-left : goal.after_run-i-requires-clause-left
+after_run-i-requires-clause-left g c =
+    let t = c.args.hulls.now in let own = c.args.own in
+    left_is_known own.all.now own.term t.machine t.cells t.cell (drop c.count_up_to-to.result (values_at t.cell t.cells))
+    c.first_between-found.result.0 c.first_between-found.ensures (sym c.is_some.ensures ∙ c.if-is_some.false)
+
 pub loop-i-preserved : goal.loop-i-preserved
 loop-i-preserved g c =
-    let t = c.args.hulls.now in let own = c.args.own in let all = values_at t.cell t.cells in
-    let long = ap length c.values-values.ensures.values in let to = c.count_up_to-to.ensures.to in (
-      omega (arith, long, to),
-      left_is_known own.all.now own.term t.machine t.cells t.cell (drop c.count_up_to-to.result all) c.first_between-found.result.0
-          c.first_between-found.ensures (sym c.is_some.ensures ∙ c.if-is_some.false),
-    )
+    let long = ap length c.values-values.ensures.values in let size = c.size-size.ensures.size in let to = c.after_run-i.ensures.to in
+    (omega (arith, long, size, to), c.after_run-i.ensures.left)
 
 pub loop-i-smaller : goal.loop-i-smaller
 loop-i-smaller g c =
@@ -83,7 +103,8 @@ loop-i-smaller g c =
     let told = c.told_of-told.ensures.to in omega (arith, ints, told, v_is, to_is) in
     let more = past_value c.values-values.result.now c.loop-i.i c.count_up_to-to.result c.nth-value.result (to_z w64 (of_z w64 c.told_of-told.result.to))
     c.count_up_to-to.ensures.above c.nth-value.ensures up in
-    let long = ap length c.values-values.ensures.values in let to = c.count_up_to-to.ensures.to in omega (arith, more, long, to)
+    let long = ap length c.values-values.ensures.values in let size = c.size-size.ensures.size in
+    let from = c.after_run-i.ensures.from in let to = c.after_run-i.ensures.to in omega (arith, more, long, size, from, to)
 
 pub returns : goal.returns
 returns g c =
