@@ -16,13 +16,13 @@ use Rattle.ts_sweep.proofs.Equals.{moved_here, plain_move}
 
 -- it has no twin
 pub moved_equal : (n : ℕ) (t : Between n) (on : On) (m : Move) (old new : List (PackedHull n)) → on.letter ≡ Equal →
-    IsMoved (sides n) (lanes_of n) (nothing n) m Equal false (count_in t.values) (value_in t.values) t.before.now (count_in t.next_values)
-    (value_in t.next_values) old new → HasMoved n t on m old new
+    IsMoved (sides n) (lanes_of n) (nothing n) m Equal false (count_in t.values.now) (value_in t.values.now) t.before.now (count_in t.next_values.now)
+    (value_in t.next_values.now) old new → HasMoved n t on m old new
 moved_equal n t on m old new is moved =
-    subst (λ l. IsMoved (sides n) (lanes_of n) (nothing n) m l on.twin (count_in t.values) (value_in t.values) t.before.now (count_in t.next_values)
-    (value_in t.next_values) old new) (sym is)
-    (subst (λ b. IsMoved (sides n) (lanes_of n) (nothing n) m Equal b (count_in t.values) (value_in t.values) t.before.now (count_in t.next_values)
-    (value_in t.next_values) old new) (sym (on.alone is)) moved)
+    subst (λ l. IsMoved (sides n) (lanes_of n) (nothing n) m l on.twin (count_in t.values.now) (value_in t.values.now) t.before.now (count_in t.next_values.now)
+    (value_in t.next_values.now) old new) (sym is)
+    (subst (λ b. IsMoved (sides n) (lanes_of n) (nothing n) m Equal b (count_in t.values.now) (value_in t.values.now) t.before.now (count_in t.next_values.now)
+    (value_in t.next_values.now) old new) (sym (on.alone is)) moved)
 
 -- it may be read so, and any other as it is
 pub moved_read : (n : ℕ) (t : Between n) (on : On) (m : Move) (old new : List (PackedHull n)) → HasMoved n t on (here_move (is_equal on.letter) m) old new →
@@ -31,13 +31,13 @@ moved_read n t on m old new moved = go on.letter on.twin on.alone moved
   where
     taken : Move → Letter → Bool → Type 0
     taken k l twin =
-        IsMoved (sides n) (lanes_of n) (nothing n) k l twin (count_in t.values) (value_in t.values) t.before.now (count_in t.next_values)
-        (value_in t.next_values) old new
+        IsMoved (sides n) (lanes_of n) (nothing n) k l twin (count_in t.values.now) (value_in t.values.now) t.before.now (count_in t.next_values.now)
+        (value_in t.next_values.now) old new
 
     go : (l : Letter) (twin : Bool) → (l ≡ Equal → twin ≡ false) → taken (here_move (is_equal l) m) l twin → taken m l twin
     go Less twin alone moved = subst (λ k. taken k Less twin) (plain_move m) moved
     go Equal twin alone moved =
         subst (taken m Equal) (sym (alone refl))
-        (moved_here (sides n) (lanes_of n) (nothing n) m (count_in t.values) (value_in t.values) t.before.now (count_in t.next_values) (value_in t.next_values)
-        old new (subst (taken (here_move true m) Equal) (alone refl) moved))
+        (moved_here (sides n) (lanes_of n) (nothing n) m (count_in t.values.now) (value_in t.values.now) t.before.now (count_in t.next_values.now)
+        (value_in t.next_values.now) old new (subst (taken (here_move true m) Equal) (alone refl) moved))
     go Greater twin alone moved = subst (λ k. taken k Greater twin) (plain_move m) moved

@@ -23,7 +23,7 @@ pub are_emitted : (n : ℕ) (t : Between n) (by : Emission) → IsCovered n t �
     (by.ranges ≡ Add → (xs : List ℤ) → IsBounded t.cover.now xs → AreWithin 1 (name_ends xs R)) →
     ((i : ℕ) → i < length t.before.now → some_lanes (lanes_of n (get_or t.before.now i (nothing n))) ≡ true →
     IsBegun (sides n) (has_wide n) by.greatest (as_read (sides n) (lanes_of n (get_or t.before.now i (nothing n))))) →
-    AreEmitted n by (count_in t.values) t.before.now
+    AreEmitted n by (count_in t.values.now) t.before.now
 are_emitted n t by covered is plain begun i inside some = record {
   made = is.0;
   one = is.1;

@@ -48,12 +48,12 @@ module _ (n s k r : ℕ) (old : List (List (PackedHull n))) (column : List (Pack
       go q lt true e = subst (λ z. IsColumn n k (get_or new z [])) (eqb-true r q e) (subst (IsColumn n k) (sym here_is) packed)
       go q lt false e = subst (IsColumn n k) (sym (other_is q (eqb-false r q e))) (row.columns q lt)
 
-  pub move_taken : (t : Between n) (on : On) (m : Move) → 6 ≤ lane_count n → m.next ≡ r → count_in t.next_values ≡ k →
-      HasMoved n t on m (get_or old r []) column → HasTaken n s k (value_in t.next_values) (taken_to n t on m) old new
+  pub move_taken : (t : Between n) (on : On) (m : Move) → 6 ≤ lane_count n → m.next ≡ r → count_in t.next_values.now ≡ k →
+      HasMoved n t on m (get_or old r []) column → HasTaken n s k (value_in t.next_values.now) (taken_to n t on m) old new
   move_taken t on m big leads counted moved u j lt less = go (nat_eq m.next u) refl
     where
       x : Hull
-      x = gives m on.letter on.twin (count_in t.values) (value_in t.values) (hull_at (lanes_of n) (nothing n) t.before.now) (value_in t.next_values j)
+      x = gives m on.letter on.twin (count_in t.values.now) (value_in t.values.now) (hull_at (lanes_of n) (nothing n) t.before.now) (value_in t.next_values.now j)
 
       go : (b : Bool) → nat_eq m.next u ≡ b → hull_in n new u j ≡ hull_of_both (hull_in n old u j) (seen_hull (sides n) (cond (nat_eq m.next u) x none))
       go true e =

@@ -28,14 +28,14 @@ value_in c i = get_or c.values.now i (pos 0)
 
 -- there is a packed hull for each value before, and each is bounded by the cover
 pub record IsCovered (n : ℕ) (t : Between n) : Type 0 where
-  pub packed : IsColumn n (count_in t.values) t.before.now
-  pub cover : IsCoverOf (sides n) (lanes_of n) (nothing n) t.cover.now (count_in t.values) t.before.now
+  pub packed : IsColumn n (count_in t.values.now) t.before.now
+  pub cover : IsCoverOf (sides n) (lanes_of n) (nothing n) t.cover.now (count_in t.values.now) t.before.now
 
 -- a column of the next cell has taken in a move, or any move with these split expressions, or of this shape
 abbrev pub HasMoved : (n : ℕ) → Between n → On → Move → List (PackedHull n) → List (PackedHull n) → Type 0
 HasMoved n t on m old new =
-    IsMoved (sides n) (lanes_of n) (nothing n) m on.letter on.twin (count_in t.values) (value_in t.values) t.before.now
-    (count_in t.next_values) (value_in t.next_values) old new
+    IsMoved (sides n) (lanes_of n) (nothing n) m on.letter on.twin (count_in t.values.now) (value_in t.values.now)
+    t.before.now (count_in t.next_values.now) (value_in t.next_values.now) old new
 
 abbrev pub MovesBy : (n : ℕ) → Between n → On → Cut → List (PackedHull n) → List (PackedHull n) → Type 0
 MovesBy n t on k old new = (m : Move) → cut_of m ≡ k → HasMoved n t on m old new
@@ -51,14 +51,14 @@ IsShapeTaken n t on s old new = (m : Move) → IsShapeOf (has_wide n) s (cut_of 
 pub record HasTakenAt (n : ℕ) (t : Between n) (on : On) (m : Move) (at : ℕ) (old new : List (PackedHull n))
     : Type 0 where
   pub column : List (PackedHull n)
-  pub packed : IsColumn n (count_in t.next_values) column
-  pub moved : HasMoved n t on m (slice_range old at (at + count_in t.next_values)) column
-  pub written : new ≡ take at old ++ (column ++ drop (count_in t.next_values) (drop at old))
+  pub packed : IsColumn n (count_in t.next_values.now) column
+  pub moved : HasMoved n t on m (slice_range old at (at + count_in t.next_values.now)) column
+  pub written : new ≡ take at old ++ (column ++ drop (count_in t.next_values.now) (drop at old))
 
 -- what is seen of what a move gives to state u of the next value w
 abbrev pub taken_to : (n : ℕ) → Between n → On → Move → ℤ → ℕ → Hull
 taken_to n t on m w u =
-    seen_hull (sides n) (gives_to m on.letter on.twin (count_in t.values) (value_in t.values)
+    seen_hull (sides n) (gives_to m on.letter on.twin (count_in t.values.now) (value_in t.values.now)
     (hull_at (lanes_of n) (nothing n) t.before.now) w u)
 
 -- what two moves give to it

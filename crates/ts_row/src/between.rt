@@ -20,10 +20,10 @@ pub(crate) struct On {
 /// The hulls of a state at the values of a cell, with their cover, and the values of the next cell.
 #[derive(Clone, Copy)]
 pub(crate) struct Between<'a, const N: usize> {
-    pub(crate) values: Cell<'a>,
+    pub(crate) values: &'a Cell<'a>,
     pub(crate) before: &'a [PackedHull<N>],
     pub(crate) cover: &'a Cover,
-    pub(crate) next_values: Cell<'a>,
+    pub(crate) next_values: &'a Cell<'a>,
     ghost registers: { 6 ≤ lane_count N },
     ghost lanes: { N ≤ 64 },
 }

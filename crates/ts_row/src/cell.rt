@@ -19,18 +19,19 @@ pub struct Cell<'a> {
         (get_or values.now 0 (pos 0) +ℤ pos i) ≡ get_or values.now i (pos 0) },
 }
 
-impl<'a> Values for Cell<'a> {
+/// A cell is lent, so that sweeps are given where it lies and not a copy.
+impl<'a> Values for &'a Cell<'a> {
     ghost use Rattle.std.specs.Prelude.{length, get_or, pos};
 
-    ghost len = { λ r. length r.values.now };
+    ghost len = { λ r. length r.now.values.now };
 
-    ghost value = { λ r i. get_or r.values.now i (pos 0) };
+    ghost value = { λ r i. get_or r.now.values.now i (pos 0) };
 
     ghost ok = { λ r. Unit {0} };
 
-    ghost rises = { λ r ok i j lt inside. r.rises i j lt inside };
+    ghost rises = { λ r ok i j lt inside. r.now.rises i j lt inside };
 
-    ghost is_small = { λ r ok i inside. r.small i inside };
+    ghost is_small = { λ r ok i inside. r.now.small i inside };
 
     #[inline(always)]
     fn count(&self) -> usize {

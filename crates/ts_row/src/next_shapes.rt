@@ -36,12 +36,12 @@ fn sweep_next<const N: usize, F: Moves<PackedHull<N>>>(
 ) -> bool
     requires swept { all_swept (F.cut by) ≡ true }
     requires covered { IsCovered N t.now }
-    requires next_packed { IsColumn N (count_in t.now.next_values) next.old }
-    ensures packed { IsColumn N (count_in t.now.next_values) next.new }
+    requires next_packed { IsColumn N (count_in t.now.next_values.now) next.old }
+    ensures packed { IsColumn N (count_in t.now.next_values.now) next.new }
     ensures taken { result ≡ true → MovesBy N t.now on (F.cut by) next.old next.new }
     ensures kept { result ≡ false → next.new ≡ next.old }
 {
-    take_next::<PackedHull<N>, F, Cell<'_>, Cell<'_>>(
+    take_next::<PackedHull<N>, F, &Cell<'_>, &Cell<'_>>(
         by,
         on.letter,
         on.twin,
@@ -62,8 +62,8 @@ fn longer_next_as<const N: usize, O: Folds>(
     next: &mut [PackedHull<N>],
 ) -> bool
     requires covered { IsCovered N t.now }
-    requires next_packed { IsColumn N (count_in t.now.next_values) next.old }
-    ensures packed { IsColumn N (count_in t.now.next_values) next.new }
+    requires next_packed { IsColumn N (count_in t.now.next_values.now) next.old }
+    ensures packed { IsColumn N (count_in t.now.next_values.now) next.new }
     ensures taken { result ≡ true → MovesAs N t.now on (longer_tails (O.fold by)) next.old next.new }
     ensures kept { result ≡ false → next.new ≡ next.old }
 {
@@ -99,8 +99,8 @@ fn found_next_as<const N: usize, O: Folds, V: Front>(
     next: &mut [PackedHull<N>],
 ) -> bool
     requires covered { IsCovered N t.now }
-    requires next_packed { IsColumn N (count_in t.now.next_values) next.old }
-    ensures packed { IsColumn N (count_in t.now.next_values) next.new }
+    requires next_packed { IsColumn N (count_in t.now.next_values.now) next.old }
+    ensures packed { IsColumn N (count_in t.now.next_values.now) next.new }
     ensures taken { result ≡ true → MovesAs N t.now on
         (found_tails (O.op by) (O.fold by) (Leaf ThisWord) (V.formula start)) next.old next.new }
     ensures kept { result ≡ false → next.new ≡ next.old }
@@ -141,8 +141,8 @@ fn inside_next_as<const N: usize, O: Folds, V: Front>(
     next: &mut [PackedHull<N>],
 ) -> bool
     requires covered { IsCovered N t.now }
-    requires next_packed { IsColumn N (count_in t.now.next_values) next.old }
-    ensures packed { IsColumn N (count_in t.now.next_values) next.new }
+    requires next_packed { IsColumn N (count_in t.now.next_values.now) next.old }
+    ensures packed { IsColumn N (count_in t.now.next_values.now) next.new }
     ensures taken { result ≡ true → MovesAs N t.now on
         (inside_tails (O.op by) (O.fold by) (V.formula start)) next.old next.new }
     ensures kept { result ≡ false → next.new ≡ next.old }
@@ -182,8 +182,8 @@ pub(crate) fn longer_next<const N: usize>(
     next: &mut [PackedHull<N>],
 ) -> bool
     requires covered { IsCovered N t.now }
-    requires next_packed { IsColumn N (count_in t.now.next_values) next.old }
-    ensures packed { IsColumn N (count_in t.now.next_values) next.new }
+    requires next_packed { IsColumn N (count_in t.now.next_values.now) next.old }
+    ensures packed { IsColumn N (count_in t.now.next_values.now) next.new }
     ensures taken { result ≡ true → MovesAs N t.now on (longer_tails (cell_op f)) next.old next.new }
     ensures kept { result ≡ false → next.new ≡ next.old }
 {
@@ -204,8 +204,8 @@ pub(crate) fn found_next<const N: usize>(
     next: &mut [PackedHull<N>],
 ) -> bool
     requires covered { IsCovered N t.now }
-    requires next_packed { IsColumn N (count_in t.now.next_values) next.old }
-    ensures packed { IsColumn N (count_in t.now.next_values) next.new }
+    requires next_packed { IsColumn N (count_in t.now.next_values.now) next.old }
+    ensures packed { IsColumn N (count_in t.now.next_values.now) next.new }
     ensures taken { result ≡ true → MovesAs N t.now on
         (found_tails (Fold (cell_op f)) (cell_op f) (cell_word f) (cell_start f)) next.old next.new }
     ensures kept { result ≡ false → next.new ≡ next.old }
@@ -227,8 +227,8 @@ pub(crate) fn inside_next<const N: usize>(
     next: &mut [PackedHull<N>],
 ) -> bool
     requires covered { IsCovered N t.now }
-    requires next_packed { IsColumn N (count_in t.now.next_values) next.old }
-    ensures packed { IsColumn N (count_in t.now.next_values) next.new }
+    requires next_packed { IsColumn N (count_in t.now.next_values.now) next.old }
+    ensures packed { IsColumn N (count_in t.now.next_values.now) next.new }
     ensures taken { result ≡ true → MovesAs N t.now on
         (inside_tails (Fold (cell_op f)) (cell_op f) (cell_start f)) next.old next.new }
     ensures kept { result ≡ false → next.new ≡ next.old }

@@ -152,12 +152,12 @@ fn emit_as<const N: usize>(by: Emission<'_>, on: On, t: &Between<'_, N>, next: &
     requires covered { IsCovered N t.now }
     requires width { rests is_zero (has_wide N) (move_of by.turn.now).to ≡ true }
     requires suits { IsMoveFor (sides N) (move_of by.turn.now) }
-    requires fit { AreEmitted N by (count_in t.now.values) t.now.before.now }
-    requires next_packed { IsColumn N (count_in t.now.next_values) next.old }
-    ensures packed { IsColumn N (count_in t.now.next_values) next.new }
+    requires fit { AreEmitted N by (count_in t.now.values.now) t.now.before.now }
+    requires next_packed { IsColumn N (count_in t.now.next_values.now) next.old }
+    ensures packed { IsColumn N (count_in t.now.next_values.now) next.new }
     ensures moved { HasMoved N t.now on (move_of by.entry.turn.now) next.old next.new }
 {
-    take_pairs::<PackedHull<N>, Emission<'_>, Cell<'_>, Cell<'_>>(
+    take_pairs::<PackedHull<N>, Emission<'_>, &Cell<'_>, &Cell<'_>>(
         by,
         on.letter,
         on.twin,
@@ -187,9 +187,9 @@ fn emit<const N: usize>(by: Emission<'_>, on: On, t: &Between<'_, N>, next: &mut
     requires covered { IsCovered N t.now }
     requires width { rests is_zero (has_wide N) (move_of by.turn.now).to ≡ true }
     requires suits { IsMoveFor (sides N) (move_of by.turn.now) }
-    requires fit { AreEmitted N by (count_in t.now.values) t.now.before.now }
-    requires next_packed { IsColumn N (count_in t.now.next_values) next.old }
-    ensures packed { IsColumn N (count_in t.now.next_values) next.new }
+    requires fit { AreEmitted N by (count_in t.now.values.now) t.now.before.now }
+    requires next_packed { IsColumn N (count_in t.now.next_values.now) next.old }
+    ensures packed { IsColumn N (count_in t.now.next_values.now) next.new }
     ensures moved { HasMoved N t.now on (move_of by.entry.turn.now) next.old next.new }
 {
     match (by.ranges, by.greatest) {
@@ -222,15 +222,15 @@ fn spread_of<const N: usize>(ranges: Op, letter: Letter) -> Option<bool>
 fn spread<const N: usize>(greatest: bool, on: On, t: &Between<'_, N>, next: &mut [PackedHull<N>])
     requires covered { IsCovered N t.now }
     requires wide { has_wide N ≡ true }
-    requires begun { (i : ℕ) → i < count_in t.now.values →
+    requires begun { (i : ℕ) → i < count_in t.now.values.now →
         some_lanes (lanes_of N (get_or t.now.before.now i (nothing N))) ≡ true →
         IsBegun (sides N) true true (as_read (sides N) (lanes_of N (get_or t.now.before.now i (nothing N)))) }
-    requires next_packed { IsColumn N (count_in t.now.next_values) next.old }
-    ensures packed { IsColumn N (count_in t.now.next_values) next.new }
+    requires next_packed { IsColumn N (count_in t.now.next_values.now) next.old }
+    ensures packed { IsColumn N (count_in t.now.next_values.now) next.new }
     ensures moved { (m : Move) → m.to ≡ emission true (pair_op greatest) true →
         HasMoved N t.now on m next.old next.new }
 {
-    take_spread::<PackedHull<N>, Cell<'_>, Cell<'_>>(
+    take_spread::<PackedHull<N>, &Cell<'_>, &Cell<'_>>(
         greatest,
         on.letter,
         on.twin,
@@ -253,9 +253,9 @@ fn take_begun<const N: usize>(
     requires suits { IsMoveFor (sides N) (move_of by.turn.now) }
     requires made { (move_of by.turn.now).to ≡ emission (has_wide N) by.ranges by.greatest }
     requires one { has_wide N ≡ true → by.greatest ≡ true }
-    requires fit { AreEmitted N by (count_in t.now.values) t.now.before.now }
-    requires next_packed { IsColumn N (count_in t.now.next_values) next.old }
-    ensures packed { IsColumn N (count_in t.now.next_values) next.new }
+    requires fit { AreEmitted N by (count_in t.now.values.now) t.now.before.now }
+    requires next_packed { IsColumn N (count_in t.now.next_values.now) next.old }
+    ensures packed { IsColumn N (count_in t.now.next_values.now) next.new }
     ensures moved { HasMoved N t.now on (move_of by.entry.turn.now) next.old next.new }
 {
     match spread_of::<N>(by.ranges, on.letter) {
@@ -274,8 +274,8 @@ fn take_emission<const N: usize>(
     requires covered { IsCovered N t.now }
     requires width { rests is_zero (has_wide N) (move_of turn.now).to ≡ true }
     requires suits { IsMoveFor (sides N) (move_of turn.now) }
-    requires next_packed { IsColumn N (count_in t.now.next_values) next.old }
-    ensures packed { IsColumn N (count_in t.now.next_values) next.new }
+    requires next_packed { IsColumn N (count_in t.now.next_values.now) next.old }
+    ensures packed { IsColumn N (count_in t.now.next_values.now) next.new }
     ensures moved { result ≡ true → HasMoved N t.now on (move_of turn.now) next.old next.new }
     ensures kept { result ≡ false → next.new ≡ next.old }
 {
@@ -311,14 +311,14 @@ pub(crate) fn take_by_pairs<const N: usize>(
     requires covered { IsCovered N t.now }
     requires width { rests is_zero (has_wide N) (move_of turn.now).to ≡ true }
     requires suits { IsMoveFor (sides N) (move_of turn.now) }
-    requires next_packed { IsColumn N (count_in t.now.next_values) next.old }
-    ensures packed { IsColumn N (count_in t.now.next_values) next.new }
+    requires next_packed { IsColumn N (count_in t.now.next_values.now) next.old }
+    ensures packed { IsColumn N (count_in t.now.next_values.now) next.new }
     ensures moved { HasMoved N t.now on (move_of turn.now) next.old next.new }
 {
     if take_emission(turn, on, t, next) {
         return;
     }
-    take_pairs::<PackedHull<N>, AnyMove<'_>, Cell<'_>, Cell<'_>>(
+    take_pairs::<PackedHull<N>, AnyMove<'_>, &Cell<'_>, &Cell<'_>>(
         AnyMove { turn },
         on.letter,
         on.twin,

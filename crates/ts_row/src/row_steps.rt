@@ -74,13 +74,13 @@ fn planned_move<'a, const N: usize>(
 fn take_tree<const N: usize>(m: Planned<'_>, t: &Between<'_, N>, next: &mut [PackedHull<N>]) -> bool
     requires covered { IsCovered N t.now }
     requires width { rests is_zero (has_wide N) (move_of m.turn.now).to ≡ true }
-    requires next_packed { IsColumn N (count_in t.now.next_values) next.old }
-    ensures packed { IsColumn N (count_in t.now.next_values) next.new }
+    requires next_packed { IsColumn N (count_in t.now.next_values.now) next.old }
+    ensures packed { IsColumn N (count_in t.now.next_values.now) next.new }
     ensures moved { result ≡ true → HasMoved N t.now m.entry.on (move_of m.entry.turn.now) next.old next.new }
     ensures kept { result ≡ false → next.new ≡ next.old }
 {
     match m.on.letter {
-        Letter::Equal => take_equal::<PackedHull<N>, Cell<'_>, Cell<'_>>(
+        Letter::Equal => take_equal::<PackedHull<N>, &Cell<'_>, &Cell<'_>>(
             m.turn,
             t.cover,
             t.values,
@@ -88,7 +88,7 @@ fn take_tree<const N: usize>(m: Planned<'_>, t: &Between<'_, N>, next: &mut [Pac
             t.next_values,
             next,
         ),
-        _ => take_swept::<PackedHull<N>, Cell<'_>, Cell<'_>>(
+        _ => take_swept::<PackedHull<N>, &Cell<'_>, &Cell<'_>>(
             m.turn,
             m.on.letter,
             m.on.twin,
@@ -108,8 +108,8 @@ fn take_turn<const N: usize>(m: Planned<'_>, t: &Between<'_, N>, next: &mut [Pac
     requires suits { IsMoveFor (sides N) (move_of m.turn.now) }
     requires shape { IsShapeOf (has_wide N) m.shape.now
         (cut_of (here_move (is_equal m.on.letter) (move_of m.turn.now))) }
-    requires next_packed { IsColumn N (count_in t.now.next_values) next.old }
-    ensures packed { IsColumn N (count_in t.now.next_values) next.new }
+    requires next_packed { IsColumn N (count_in t.now.next_values.now) next.old }
+    ensures packed { IsColumn N (count_in t.now.next_values.now) next.new }
     ensures moved { HasMoved N t.now m.entry.on (move_of m.entry.turn.now) next.old next.new }
 {
     if take_shape(*m.shape, m.on, t, next) {
@@ -134,9 +134,9 @@ fn take_at<const N: usize>(
     requires suits { IsMoveFor (sides N) (move_of m.turn.now) }
     requires shape { IsShapeOf (has_wide N) m.shape.now
         (cut_of (here_move (is_equal m.on.letter) (move_of m.turn.now))) }
-    requires inside { m.turn.now.next * stride + count_in t.now.next_values ≤ length hulls.old }
-    requires packed { IsColumn N (count_in t.now.next_values) (slice_range hulls.old (m.turn.now.next * stride)
-        (m.turn.now.next * stride + count_in t.now.next_values)) }
+    requires inside { m.turn.now.next * stride + count_in t.now.next_values.now ≤ length hulls.old }
+    requires packed { IsColumn N (count_in t.now.next_values.now) (slice_range hulls.old (m.turn.now.next * stride)
+        (m.turn.now.next * stride + count_in t.now.next_values.now)) }
     ensures { HasTakenAt N t.now m.entry.on (move_of m.entry.turn.now) (m.entry.turn.now.next * stride) hulls.old
         hulls.new }
 {
@@ -153,9 +153,9 @@ fn take_move<const N: usize>(m: Planned<'_>, t: &Between<'_, N>, next: &mut Pack
     requires shape { IsShapeOf (has_wide N) m.shape.now
         (cut_of (here_move (is_equal m.on.letter) (move_of m.turn.now))) }
     requires leads { m.turn.now.next < length next.old }
-    requires row { IsRow N (length next.old) (count_in t.now.next_values) next.old }
-    ensures row { IsRow N (length next.old) (count_in t.now.next_values) next.new }
-    ensures taken { HasTaken N (length next.old) (count_in t.now.next_values) (value_in t.now.next_values)
+    requires row { IsRow N (length next.old) (count_in t.now.next_values.now) next.old }
+    ensures row { IsRow N (length next.old) (count_in t.now.next_values.now) next.new }
+    ensures taken { HasTaken N (length next.old) (count_in t.now.next_values.now) (value_in t.now.next_values.now)
         (taken_to N t.now m.entry.on (move_of m.entry.turn.now)) next.old next.new }
 {
     take_at(m, t, next.stride, &mut next.hulls);
@@ -179,9 +179,9 @@ fn take_two<const N: usize>(
         (cut_of (here_move (is_equal k.on.letter) (move_of k.turn.now))) }
     requires leads { m.turn.now.next < length next.old }
     requires other_leads { k.turn.now.next < length next.old }
-    requires row { IsRow N (length next.old) (count_in t.now.next_values) next.old }
-    ensures row { IsRow N (length next.old) (count_in t.now.next_values) next.new }
-    ensures taken { HasTaken N (length next.old) (count_in t.now.next_values) (value_in t.now.next_values)
+    requires row { IsRow N (length next.old) (count_in t.now.next_values.now) next.old }
+    ensures row { IsRow N (length next.old) (count_in t.now.next_values.now) next.new }
+    ensures taken { HasTaken N (length next.old) (count_in t.now.next_values.now) (value_in t.now.next_values.now)
         (two_taken_to N t.now m.entry.on (move_of m.entry.turn.now) k.entry.on
         (move_of k.entry.turn.now)) next.old next.new }
 {
@@ -203,10 +203,10 @@ fn take_moves<const N: usize>(
     requires plan { IsStatePlan a.now q plan.now }
     requires covered { IsCovered N t.now }
     requires states { length next.old ≡ length a.now.states }
-    requires row { IsRow N (length next.old) (count_in t.now.next_values) next.old }
-    ensures row { IsRow N (length next.old) (count_in t.now.next_values) next.new }
-    ensures taken { HasTaken N (length next.old) (count_in t.now.next_values) (value_in t.now.next_values)
-        (seen_gives N a.now q (count_in t.now.values) (value_in t.now.values)
+    requires row { IsRow N (length next.old) (count_in t.now.next_values.now) next.old }
+    ensures row { IsRow N (length next.old) (count_in t.now.next_values.now) next.new }
+    ensures taken { HasTaken N (length next.old) (count_in t.now.next_values.now) (value_in t.now.next_values.now)
+        (seen_gives N a.now q (count_in t.now.values.now) (value_in t.now.values.now)
         (hull_at (lanes_of N) (nothing N) t.now.before.now))
         next.old next.new }
 {
@@ -236,9 +236,9 @@ fn take_state<const N: usize>(
     a: &Automaton,
     q: u8,
     plan: &StatePlan,
-    values: Cell<'_>,
+    values: &Cell<'_>,
     column: &[PackedHull<N>],
-    next_values: Cell<'_>,
+    next_values: &Cell<'_>,
     next: &mut PackedRow<N>,
 )
     requires width { a.now.wide ≡ has_wide N }
@@ -246,12 +246,12 @@ fn take_state<const N: usize>(
     requires lanes { N ≤ 64 }
     requires state { q < length a.now.states }
     requires plan { IsStatePlan a.now q plan.now }
-    requires column { IsColumn N (count_in values) column.now }
+    requires column { IsColumn N (count_in values.now) column.now }
     requires states { length next.old ≡ length a.now.states }
-    requires row { IsRow N (length next.old) (count_in next_values) next.old }
-    ensures row { IsRow N (length next.old) (count_in next_values.entry) next.new }
-    ensures taken { HasTaken N (length next.old) (count_in next_values.entry) (value_in next_values.entry)
-        (seen_gives N a.now q (count_in values.entry) (value_in values.entry)
+    requires row { IsRow N (length next.old) (count_in next_values.now) next.old }
+    ensures row { IsRow N (length next.old) (count_in next_values.now) next.new }
+    ensures taken { HasTaken N (length next.old) (count_in next_values.now) (value_in next_values.now)
+        (seen_gives N a.now q (count_in values.now) (value_in values.now)
         (hull_at (lanes_of N) (nothing N) column.now)) next.old next.new }
 {
     let cover = cover_of::<N, Dense>(Dense, column, values.values.len());
@@ -294,9 +294,9 @@ pub fn next_row<const N: usize>(
             a,
             q,
             &plan.states[q as usize],
-            values,
+            &values,
             before.column(q),
-            next_values,
+            &next_values,
             next,
         );
     }

@@ -49,12 +49,12 @@ pub(crate) fn sweep_as<const N: usize, F: Moves<PackedHull<N>>>(
 ) -> bool
     requires whole { all_whole (F.cut by) ≡ true }
     requires covered { IsCovered N t.now }
-    requires next_packed { IsColumn N (count_in t.now.next_values) next.old }
-    ensures packed { IsColumn N (count_in t.now.next_values) next.new }
+    requires next_packed { IsColumn N (count_in t.now.next_values.now) next.old }
+    ensures packed { IsColumn N (count_in t.now.next_values.now) next.new }
     ensures taken { result ≡ true → MovesBy N t.now on (F.cut by) next.old next.new }
     ensures kept { result ≡ false → next.new ≡ next.old }
 {
-    take_column::<PackedHull<N>, F, Cell<'_>, Cell<'_>>(
+    take_column::<PackedHull<N>, F, &Cell<'_>, &Cell<'_>>(
         by,
         on.letter,
         on.twin,
@@ -116,8 +116,8 @@ fn longer_as<const N: usize, O: Operator, W: Front>(
     next: &mut [PackedHull<N>],
 ) -> bool
     requires covered { IsCovered N t.now }
-    requires next_packed { IsColumn N (count_in t.now.next_values) next.old }
-    ensures packed { IsColumn N (count_in t.now.next_values) next.new }
+    requires next_packed { IsColumn N (count_in t.now.next_values.now) next.old }
+    ensures packed { IsColumn N (count_in t.now.next_values.now) next.new }
     ensures taken { result ≡ true → MovesAs N t.now on (longer_fronts (O.op by) (W.formula word)) next.old next.new }
     ensures kept { result ≡ false → next.new ≡ next.old }
 {
@@ -154,8 +154,8 @@ fn begun_as<const N: usize, V: Front>(
     next: &mut [PackedHull<N>],
 ) -> bool
     requires covered { IsCovered N t.now }
-    requires next_packed { IsColumn N (count_in t.now.next_values) next.old }
-    ensures packed { IsColumn N (count_in t.now.next_values) next.new }
+    requires next_packed { IsColumn N (count_in t.now.next_values.now) next.old }
+    ensures packed { IsColumn N (count_in t.now.next_values.now) next.new }
     ensures taken { result ≡ true → MovesAs N t.now on (begun_fronts (V.formula start)) next.old next.new }
     ensures kept { result ≡ false → next.new ≡ next.old }
 {
@@ -186,8 +186,8 @@ fn found_as<const N: usize, O: Operator, W: Front, V: Front>(
     next: &mut [PackedHull<N>],
 ) -> bool
     requires covered { IsCovered N t.now }
-    requires next_packed { IsColumn N (count_in t.now.next_values) next.old }
-    ensures packed { IsColumn N (count_in t.now.next_values) next.new }
+    requires next_packed { IsColumn N (count_in t.now.next_values.now) next.old }
+    ensures packed { IsColumn N (count_in t.now.next_values.now) next.new }
     ensures taken { result ≡ true → MovesAs N t.now on
         (found_fronts (O.op by) (W.formula word) (V.formula start)) next.old next.new }
     ensures kept { result ≡ false → next.new ≡ next.old }
@@ -223,8 +223,8 @@ fn inside_as<const N: usize, O: Operator, W: Front, V: Front>(
     next: &mut [PackedHull<N>],
 ) -> bool
     requires covered { IsCovered N t.now }
-    requires next_packed { IsColumn N (count_in t.now.next_values) next.old }
-    ensures packed { IsColumn N (count_in t.now.next_values) next.new }
+    requires next_packed { IsColumn N (count_in t.now.next_values.now) next.old }
+    ensures packed { IsColumn N (count_in t.now.next_values.now) next.new }
     ensures taken { result ≡ true → MovesAs N t.now on
         (inside_fronts (O.op by) (W.formula word) (V.formula start)) next.old next.new }
     ensures kept { result ≡ false → next.new ≡ next.old }
@@ -268,8 +268,8 @@ fn ended_as<const N: usize, O: Operator, X: Front, V: Front>(
     next: &mut [PackedHull<N>],
 ) -> bool
     requires covered { IsCovered N t.now }
-    requires next_packed { IsColumn N (count_in t.now.next_values) next.old }
-    ensures packed { IsColumn N (count_in t.now.next_values) next.new }
+    requires next_packed { IsColumn N (count_in t.now.next_values.now) next.old }
+    ensures packed { IsColumn N (count_in t.now.next_values.now) next.new }
     ensures taken { result ≡ true → MovesAs N t.now on
         (ended_fronts (O.op by) (X.formula found) (V.formula start)) next.old next.new }
     ensures kept { result ≡ false → next.new ≡ next.old }
@@ -308,8 +308,8 @@ fn ended_by<const N: usize, O: Operator, M: Operator, X: Front, Y: Front, V: Fro
 ) -> bool
     requires difference { M.op minus ≡ Sub }
     requires covered { IsCovered N t.now }
-    requires next_packed { IsColumn N (count_in t.now.next_values) next.old }
-    ensures packed { IsColumn N (count_in t.now.next_values) next.new }
+    requires next_packed { IsColumn N (count_in t.now.next_values.now) next.old }
+    ensures packed { IsColumn N (count_in t.now.next_values.now) next.new }
     ensures taken { result ≡ true → MovesAs N t.now on (ended_fronts (O.op by)
         (less_of (has_wide N) (X.formula found) (Y.formula low)) (V.formula start)) next.old next.new }
     ensures kept { result ≡ false → next.new ≡ next.old }
@@ -338,8 +338,8 @@ fn anew_as<const N: usize, O: Operator, U: Front, X: Front, V: Front>(
     next: &mut [PackedHull<N>],
 ) -> bool
     requires covered { IsCovered N t.now }
-    requires next_packed { IsColumn N (count_in t.now.next_values) next.old }
-    ensures packed { IsColumn N (count_in t.now.next_values) next.new }
+    requires next_packed { IsColumn N (count_in t.now.next_values.now) next.old }
+    ensures packed { IsColumn N (count_in t.now.next_values.now) next.new }
     ensures taken { result ≡ true → MovesAs N t.now on
         (anew_fronts (O.op by) (U.formula range_start) (X.formula held) (V.formula start)) next.old next.new }
     ensures kept { result ≡ false → next.new ≡ next.old }
@@ -371,8 +371,8 @@ fn anew_by<const N: usize, O: Operator, U: Front, V: Front>(
     next: &mut [PackedHull<N>],
 ) -> bool
     requires covered { IsCovered N t.now }
-    requires next_packed { IsColumn N (count_in t.now.next_values) next.old }
-    ensures packed { IsColumn N (count_in t.now.next_values) next.new }
+    requires next_packed { IsColumn N (count_in t.now.next_values.now) next.old }
+    ensures packed { IsColumn N (count_in t.now.next_values.now) next.new }
     ensures taken { result ≡ true → MovesAs N t.now on
         (anew_fronts (O.op by) (U.formula range_start) (held_of (has_wide N)) (V.formula start)) next.old next.new }
     ensures kept { result ≡ false → next.new ≡ next.old }
@@ -400,8 +400,8 @@ fn found_twice_as<const N: usize, O: Operator, W: Front, V: Front>(
     next: &mut [PackedHull<N>],
 ) -> bool
     requires covered { IsCovered N t.now }
-    requires next_packed { IsColumn N (count_in t.now.next_values) next.old }
-    ensures packed { IsColumn N (count_in t.now.next_values) next.new }
+    requires next_packed { IsColumn N (count_in t.now.next_values.now) next.old }
+    ensures packed { IsColumn N (count_in t.now.next_values.now) next.new }
     ensures taken { result ≡ true → MovesAs N t.now on
         (found_twice_fronts (O.op by) (W.formula word) (V.formula start)) next.old next.new }
     ensures kept { result ≡ false → next.new ≡ next.old }
@@ -440,8 +440,8 @@ fn longer<const N: usize>(
     next: &mut [PackedHull<N>],
 ) -> bool
     requires covered { IsCovered N t.now }
-    requires next_packed { IsColumn N (count_in t.now.next_values) next.old }
-    ensures packed { IsColumn N (count_in t.now.next_values) next.new }
+    requires next_packed { IsColumn N (count_in t.now.next_values.now) next.old }
+    ensures packed { IsColumn N (count_in t.now.next_values.now) next.new }
     ensures taken { result ≡ true → MovesAs N t.now on
         (longer_fronts (Fold (cell_op f)) (cell_word f)) next.old next.new }
     ensures kept { result ≡ false → next.new ≡ next.old }
@@ -464,8 +464,8 @@ fn begun<const N: usize>(
     next: &mut [PackedHull<N>],
 ) -> bool
     requires covered { IsCovered N t.now }
-    requires next_packed { IsColumn N (count_in t.now.next_values) next.old }
-    ensures packed { IsColumn N (count_in t.now.next_values) next.new }
+    requires next_packed { IsColumn N (count_in t.now.next_values.now) next.old }
+    ensures packed { IsColumn N (count_in t.now.next_values.now) next.new }
     ensures taken { result ≡ true → MovesAs N t.now on (begun_fronts (cell_start f)) next.old next.new }
     ensures kept { result ≡ false → next.new ≡ next.old }
 {
@@ -486,8 +486,8 @@ fn found<const N: usize>(
     next: &mut [PackedHull<N>],
 ) -> bool
     requires covered { IsCovered N t.now }
-    requires next_packed { IsColumn N (count_in t.now.next_values) next.old }
-    ensures packed { IsColumn N (count_in t.now.next_values) next.new }
+    requires next_packed { IsColumn N (count_in t.now.next_values.now) next.old }
+    ensures packed { IsColumn N (count_in t.now.next_values.now) next.new }
     ensures taken { result ≡ true → MovesAs N t.now on
         (found_fronts (Fold (cell_op f)) (cell_word f) (cell_start f)) next.old next.new }
     ensures kept { result ≡ false → next.new ≡ next.old }
@@ -510,8 +510,8 @@ fn inside<const N: usize>(
     next: &mut [PackedHull<N>],
 ) -> bool
     requires covered { IsCovered N t.now }
-    requires next_packed { IsColumn N (count_in t.now.next_values) next.old }
-    ensures packed { IsColumn N (count_in t.now.next_values) next.new }
+    requires next_packed { IsColumn N (count_in t.now.next_values.now) next.old }
+    ensures packed { IsColumn N (count_in t.now.next_values.now) next.new }
     ensures taken { result ≡ true → MovesAs N t.now on
         (inside_fronts (Fold (cell_op f)) (cell_word f) (cell_start f)) next.old next.new }
     ensures kept { result ≡ false → next.new ≡ next.old }
@@ -541,8 +541,8 @@ fn ended_from<const N: usize, S: Operator, M: Operator, X: Front, Y: Front, V: F
     requires sum { S.op plus ≡ Fold Add }
     requires difference { M.op minus ≡ Sub }
     requires covered { IsCovered N t.now }
-    requires next_packed { IsColumn N (count_in t.now.next_values) next.old }
-    ensures packed { IsColumn N (count_in t.now.next_values) next.new }
+    requires next_packed { IsColumn N (count_in t.now.next_values.now) next.old }
+    ensures packed { IsColumn N (count_in t.now.next_values.now) next.new }
     ensures taken { result ≡ true → MovesAs N t.now on (ended_fronts (Fold (range_op g))
         (less_of (has_wide N) (X.formula found) (Y.formula low)) (V.formula start)) next.old next.new }
     ensures kept { result ≡ false → next.new ≡ next.old }
@@ -567,8 +567,8 @@ fn ended_open<const N: usize, X: Front, Y: Front, V: Front>(
     next: &mut [PackedHull<N>],
 ) -> bool
     requires covered { IsCovered N t.now }
-    requires next_packed { IsColumn N (count_in t.now.next_values) next.old }
-    ensures packed { IsColumn N (count_in t.now.next_values) next.new }
+    requires next_packed { IsColumn N (count_in t.now.next_values.now) next.old }
+    ensures packed { IsColumn N (count_in t.now.next_values.now) next.new }
     ensures taken { result ≡ true → MovesAs N t.now on (ended_fronts (Fold (range_op g))
         (less_of (has_wide N) (X.formula found) (Y.formula low)) (V.formula start)) next.old next.new }
     ensures kept { result ≡ false → next.new ≡ next.old }
@@ -589,8 +589,8 @@ fn ended<const N: usize>(
     next: &mut [PackedHull<N>],
 ) -> bool
     requires covered { IsCovered N t.now }
-    requires next_packed { IsColumn N (count_in t.now.next_values) next.old }
-    ensures packed { IsColumn N (count_in t.now.next_values) next.new }
+    requires next_packed { IsColumn N (count_in t.now.next_values.now) next.old }
+    ensures packed { IsColumn N (count_in t.now.next_values.now) next.new }
     ensures taken { result ≡ true → MovesAs N t.now on (ended_fronts (Fold (range_op g))
         (found_of (has_wide N) (Fold (cell_op f)) (cell_word f)) (cell_start f)) next.old next.new }
     ensures kept { result ≡ false → next.new ≡ next.old }
@@ -615,8 +615,8 @@ fn anew_from<const N: usize, V: Front>(
     next: &mut [PackedHull<N>],
 ) -> bool
     requires covered { IsCovered N t.now }
-    requires next_packed { IsColumn N (count_in t.now.next_values) next.old }
-    ensures packed { IsColumn N (count_in t.now.next_values) next.new }
+    requires next_packed { IsColumn N (count_in t.now.next_values.now) next.old }
+    ensures packed { IsColumn N (count_in t.now.next_values.now) next.new }
     ensures taken { result ≡ true → MovesAs N t.now on
         (anew_fronts (Fold (range_op g)) (range_start g) (held_of (has_wide N)) (V.formula start)) next.old next.new }
     ensures kept { result ≡ false → next.new ≡ next.old }
@@ -638,8 +638,8 @@ fn anew<const N: usize>(
     next: &mut [PackedHull<N>],
 ) -> bool
     requires covered { IsCovered N t.now }
-    requires next_packed { IsColumn N (count_in t.now.next_values) next.old }
-    ensures packed { IsColumn N (count_in t.now.next_values) next.new }
+    requires next_packed { IsColumn N (count_in t.now.next_values.now) next.old }
+    ensures packed { IsColumn N (count_in t.now.next_values.now) next.new }
     ensures taken { result ≡ true → MovesAs N t.now on
         (anew_fronts (Fold (range_op g)) (range_start g) (held_of (has_wide N)) (cell_start f)) next.old next.new }
     ensures kept { result ≡ false → next.new ≡ next.old }
@@ -661,8 +661,8 @@ fn found_twice<const N: usize>(
     next: &mut [PackedHull<N>],
 ) -> bool
     requires covered { IsCovered N t.now }
-    requires next_packed { IsColumn N (count_in t.now.next_values) next.old }
-    ensures packed { IsColumn N (count_in t.now.next_values) next.new }
+    requires next_packed { IsColumn N (count_in t.now.next_values.now) next.old }
+    ensures packed { IsColumn N (count_in t.now.next_values.now) next.new }
     ensures taken { result ≡ true → MovesAs N t.now on
         (found_twice_fronts (Fold (cell_op f)) (cell_word f) (cell_start f)) next.old next.new }
     ensures kept { result ≡ false → next.new ≡ next.old }
@@ -686,8 +686,8 @@ fn ended_twice<const N: usize>(
     next: &mut [PackedHull<N>],
 ) -> bool
     requires covered { IsCovered N t.now }
-    requires next_packed { IsColumn N (count_in t.now.next_values) next.old }
-    ensures packed { IsColumn N (count_in t.now.next_values) next.new }
+    requires next_packed { IsColumn N (count_in t.now.next_values.now) next.old }
+    ensures packed { IsColumn N (count_in t.now.next_values.now) next.new }
     ensures taken { result ≡ true → MovesAs N t.now on (ended_fronts (Fold (range_op g))
         (found_twice_of (has_wide N) (Fold (cell_op f)) (cell_word f)) (cell_start f)) next.old next.new }
     ensures kept { result ≡ false → next.new ≡ next.old }
@@ -710,8 +710,8 @@ pub(crate) fn take_shape<const N: usize>(
     next: &mut [PackedHull<N>],
 ) -> bool
     requires covered { IsCovered N t.now }
-    requires next_packed { IsColumn N (count_in t.now.next_values) next.old }
-    ensures packed { IsColumn N (count_in t.now.next_values) next.new }
+    requires next_packed { IsColumn N (count_in t.now.next_values.now) next.old }
+    ensures packed { IsColumn N (count_in t.now.next_values.now) next.new }
     ensures taken { result ≡ true → IsShapeTaken N t.now on shape next.old next.new }
     ensures kept { result ≡ false → next.new ≡ next.old }
 {

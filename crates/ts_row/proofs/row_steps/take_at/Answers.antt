@@ -5,7 +5,7 @@ use Rattle.ts_row.proofs.row_steps.take_at.Goals as goal
 pub returns : goal.returns
 returns g c =
     let at = c.args.m.turn.now.next * c.args.stride in
-    let count = count_in c.args.t.now.next_values in
+    let count = count_in c.args.t.now.next_values.now in
     let old = c.args.hulls.now in
     let column = c.take_turn.new.next in
     record {

@@ -9,7 +9,7 @@ use Rattle.ts_row.proofs.row_steps.take_move.Goals as goal
 pub take_at-requires : goal.take_at-requires
 take_at-requires g c =
     let s = c.next.inside in
-    let k = count_in c.args.t.now.next_values in
+    let k = count_in c.args.t.now.next_values.now in
     let r = c.args.m.turn.now.next in
     let same = (c.requires.row.columns r c.requires.leads).0 in (
       search rules,
@@ -40,7 +40,7 @@ take_at-requires g c =
 pub returns-clause-row : goal.returns-clause-row
 returns-clause-row g c =
     let s = c.next.inside in
-    let k = count_in c.args.t.now.next_values in
+    let k = count_in c.args.t.now.next_values.now in
     let r = c.args.m.turn.now.next in
     let old = c.args.next.now in
     let same = (c.requires.row.columns r c.requires.leads).0 in
@@ -54,7 +54,7 @@ pub returns-clause-taken : goal.returns-clause-taken
 returns-clause-taken g c =
     let s = c.next.inside in
     let t = c.args.t.now in
-    let k = count_in t.next_values in
+    let k = count_in t.next_values.now in
     let r = c.args.m.turn.now.next in
     let old = c.args.next.now in
     let same = (c.requires.row.columns r c.requires.leads).0 in

@@ -6,8 +6,8 @@ use Rattle.ts_row.proofs.row_steps.take_state.Goals as goal
 
 pub returns-then-not-cover-clause-taken : goal.returns-then-not-cover-clause-taken
 returns-then-not-cover-clause-taken g c =
-    taken_nothing c.args.a.now c.args.q g.row.N (count_in c.args.values) (value_in c.args.values)
+    taken_nothing c.args.a.now c.args.q g.row.N (count_in c.args.values.now) (value_in c.args.values.now)
     (hull_at (lanes_of g.row.N) (nothing g.row.N) c.args.column.now)
-    _ (count_in c.args.next_values) (value_in c.args.next_values) c.args.next.now c.requires.registers c.requires.row
-    (not_reached g.row.N (count_in c.args.values) c.args.column.now c.cover_of-cover.result.some c.requires.registers c.requires.column
+    _ (count_in c.args.next_values.now) (value_in c.args.next_values.now) c.args.next.now c.requires.registers c.requires.row
+    (not_reached g.row.N (count_in c.args.values.now) c.args.column.now c.cover_of-cover.result.some c.requires.registers c.requires.column
     c.cover_of-cover.ensures.some c.if-not-cover.true)
