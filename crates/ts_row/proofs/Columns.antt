@@ -2,7 +2,7 @@
 use Rattle.std.proofs.Common.{◌≡◌, ◌⊎◌, inl, inr, ℕ, zero, suc, min, ◌+◌, ◌-◌, ◌*◌, ◌<◌, ◌≤◌, List, [], ◌++◌, length, get_or, set, slice_range, map, take, drop, replicate, refl, sym, ap, subst, ◌∙◌, arith}
 use Rattle.std.specs.List.{remove_range}
 use Rattle.std.proofs.lemmas.Bool.{cases_lt, cases_order}
-use Rattle.std.proofs.lemmas.List.{get_or-append_right, get_or-drop, get_or-map, get_or-replicate, get_or-take, get_or_append_left, get_or_default, length-append, length-drop, length-map, length-replicate, length-set, length-take, length-take-le, same_lists, take_all, take_at}
+use Rattle.std.proofs.lemmas.List.{get_or-append_right, get_or-drop, get_or-map, get_or-replicate, get_or-take, get_or_append_left, get_or_default, length-append, length-drop, length-map, length-replicate, length-set, length-take, length-take-le, replicate-append-replicate, same_lists, take_all, take_at}
 use Rattle.std.proofs.Math.Seq.{take-nil}
 use Rattle.std.proofs.lemmas.List.FromFn.{get_or-map-range_with_len, length-map-range_with_len}
 use Rattle.ts_row.specs.Rows.{IsReset, columns_in, nothing}
@@ -278,6 +278,14 @@ reset_items n count all first xs a b la lb fits none start made long rest =
     rest ∙ ap (λ z. take all z ++ replicate (all - lb) (nothing n)) filled
     ∙ ap (λ z. z ++ replicate (all - lb) (nothing n)) (take_all all (replicate count first) (let e = length-replicate count first in omega (arith, e, fits)))
     ∙ ap (λ k. replicate count first ++ replicate (all - k) (nothing n)) long
+
+-- a list that is filled with nothing
+pub cleared_items : (n count all : ℕ) (h : PackedHull n) (xs b : List (PackedHull n)) (la : ℕ) → count ≤ all → xs ≡ [] → la ≡ 0 →
+    b ≡ take all xs ++ replicate (all - la) h → h ≡ nothing n → b ≡ replicate count (nothing n) ++ replicate (all - count) (nothing n)
+cleared_items n count all h xs b la fits none start made is =
+    made ∙ ap (λ z. take all z ++ replicate (all - la) h) none ∙ ap (λ z. z ++ replicate (all - la) h) (take-nil all)
+    ∙ ap (replicate (all - la)) is ∙ ap (λ k. replicate k (nothing n)) (let e : all - la ≡ count + (all - count) = omega (arith, start, fits) in e)
+    ∙ sym (replicate-append-replicate count (all - count) (nothing n))
 
 -- a row just made
 module _ (n states count all : ℕ) (first : PackedHull n) (xs : List (PackedHull n)) (some : 0 < states) (product : all ≡ states * count)

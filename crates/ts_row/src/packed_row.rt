@@ -2,7 +2,7 @@
 
 ghost use Rattle.std.specs.List.{All, CopiedTo, SameBelow, SameFrom, remove_range};
 ghost use Rattle.std.specs.Prelude.{◌≡◌, ◌<◌, ◌≤◌, ◌+◌, ◌-◌, ◌*◌, [], IfOk, length, get_or, map, slice_range};
-ghost use Rattle.ts_row.specs.Rows.{IsReset, columns_part};
+ghost use Rattle.ts_row.specs.Rows.{IsReset, columns_part, nothing};
 
 use crate::row_view::RowView;
 use std::alloc::Global;
@@ -89,6 +89,26 @@ impl<const N: usize> PackedRow<N> {
         self.hulls.clear();
         self.hulls.reserve(all)?;
         self.hulls.resize(count, first)?;
+        self.hulls.resize(all, PackedHull::nothing())?;
+        self.states = states;
+        self.stride = count;
+        self.count = count;
+        Ok(())
+    }
+
+    /// Makes of the row a column of `count` hulls of nothing for each state, in the same memory. After `Memory` it has
+    /// no state.
+    pub(crate) fn clear(&mut self, states: u8, count: usize) -> Result<(), Memory>
+        requires some { 0 < states }
+        requires lanes { N ≤ 64 }
+        ensures { IfOk result (λ u. IsReset N states count (nothing N) self.new) }
+    {
+        self.states = 0;
+        let all = match (states as usize).checked_mul(count) {
+            Some(all) => all,
+            None => return Err(Memory),
+        };
+        self.hulls.clear();
         self.hulls.resize(all, PackedHull::nothing())?;
         self.states = states;
         self.stride = count;

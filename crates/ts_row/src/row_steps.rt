@@ -288,7 +288,7 @@ pub fn next_row<const N: usize>(
         ≡ seen_hull (sides N) (next_hull a.now (count_in values.entry) (value_in values.entry) (hull_in N before.now)
         (value_in next_values.entry j) t))) }
 {
-    next.reset(a.states(), next_values.values.len(), PackedHull::nothing())?;
+    next.clear(a.states(), next_values.values.len())?;
     for q in 0..a.states() {
         take_state(
             a,
