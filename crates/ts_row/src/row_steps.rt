@@ -101,7 +101,23 @@ fn take_tree<const N: usize>(m: Planned<'_>, t: &Between<'_, N>, next: &mut [Pac
     }
 }
 
-/// Takes a move into a column: by the sweep of its shape, or else by that of its expressions, or else by pairs.
+/// Takes a move into a column that no shape takes in: by the sweep of its expressions, or else by pairs.
+#[inline(never)]
+fn take_other<const N: usize>(m: Planned<'_>, t: &Between<'_, N>, next: &mut [PackedHull<N>])
+    requires covered { IsCovered N t.now }
+    requires width { rests is_zero (has_wide N) (move_of m.turn.now).to ≡ true }
+    requires suits { IsMoveFor (sides N) (move_of m.turn.now) }
+    requires next_packed { IsColumn N (count_in t.now.next_values.now) next.old }
+    ensures packed { IsColumn N (count_in t.now.next_values.now) next.new }
+    ensures moved { HasMoved N t.now m.entry.on (move_of m.entry.turn.now) next.old next.new }
+{
+    if take_tree(m, t, next) {
+        return;
+    }
+    take_by_pairs(m.turn, m.on, t, next);
+}
+
+/// Takes a move into a column: by the sweep of its shape, or else in another way.
 fn take_turn<const N: usize>(m: Planned<'_>, t: &Between<'_, N>, next: &mut [PackedHull<N>])
     requires covered { IsCovered N t.now }
     requires width { rests is_zero (has_wide N) (move_of m.turn.now).to ≡ true }
@@ -115,10 +131,7 @@ fn take_turn<const N: usize>(m: Planned<'_>, t: &Between<'_, N>, next: &mut [Pac
     if take_shape(*m.shape, m.on, t, next) {
         return;
     }
-    if take_tree(m, t, next) {
-        return;
-    }
-    take_by_pairs(m.turn, m.on, t, next);
+    take_other(m, t, next);
 }
 
 /// Takes a move into the column of the state that it leads to, of columns that lie one after another, each with room
@@ -145,19 +158,28 @@ fn take_at<const N: usize>(
     take_turn(m, t, &mut hulls[from..to]);
 }
 
-/// Takes a move into the row, at the state that it leads to.
-fn take_move<const N: usize>(m: Planned<'_>, t: &Between<'_, N>, next: &mut PackedRow<N>)
+/// Takes a move into the row, at the state that it leads to. The parts of a planned move are arguments by themselves,
+/// so that they need no memory.
+#[inline(never)]
+fn take_move<const N: usize>(
+    turn: &Turn,
+    shape: &Shape,
+    on: On,
+    t: &Between<'_, N>,
+    next: &mut PackedRow<N>,
+)
     requires covered { IsCovered N t.now }
-    requires width { rests is_zero (has_wide N) (move_of m.turn.now).to ≡ true }
-    requires suits { IsMoveFor (sides N) (move_of m.turn.now) }
-    requires shape { IsShapeOf (has_wide N) m.shape.now
-        (cut_of (here_move (is_equal m.on.letter) (move_of m.turn.now))) }
-    requires leads { m.turn.now.next < length next.old }
+    requires width { rests is_zero (has_wide N) (move_of turn.now).to ≡ true }
+    requires suits { IsMoveFor (sides N) (move_of turn.now) }
+    requires shape { IsShapeOf (has_wide N) shape.now
+        (cut_of (here_move (is_equal on.letter) (move_of turn.now))) }
+    requires leads { turn.now.next < length next.old }
     requires row { IsRow N (length next.old) (count_in t.now.next_values.now) next.old }
     ensures row { IsRow N (length next.old) (count_in t.now.next_values.now) next.new }
     ensures taken { HasTaken N (length next.old) (count_in t.now.next_values.now) (value_in t.now.next_values.now)
-        (taken_to N t.now m.entry.on (move_of m.entry.turn.now)) next.old next.new }
+        (taken_to N t.now on (move_of turn.now)) next.old next.new }
 {
+    let m = Planned { turn, shape, on };
     take_at(m, t, next.stride, &mut next.hulls);
 }
 
@@ -185,8 +207,8 @@ fn take_two<const N: usize>(
         (two_taken_to N t.now m.entry.on (move_of m.entry.turn.now) k.entry.on
         (move_of k.entry.turn.now)) next.old next.new }
 {
-    take_move(m, t, next);
-    take_move(k, t, next);
+    take_move(m.turn, m.shape, m.on, t, next);
+    take_move(k.turn, k.shape, k.on, t, next);
 }
 
 /// Takes all moves of a state into the row. In most states the move on `=` is the same as another, and is taken in with
@@ -226,7 +248,7 @@ fn take_moves<const N: usize>(
             let equal = planned_move::<N>(a, q, Letter::Equal, false, &plan.equal);
             let greater = planned_move::<N>(a, q, Letter::Greater, false, &plan.greater);
             take_two(less, equal, t, next);
-            take_move(greater, t, next);
+            take_move(greater.turn, greater.shape, greater.on, t, next);
         }
     }
 }

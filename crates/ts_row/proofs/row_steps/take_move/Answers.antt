@@ -10,7 +10,7 @@ pub take_at-requires : goal.take_at-requires
 take_at-requires g c =
     let s = c.next.inside in
     let k = count_in c.args.t.now.next_values.now in
-    let r = c.args.m.turn.now.next in
+    let r = c.args.turn.now.next in
     let same = (c.requires.row.columns r c.requires.leads).0 in (
       search rules,
       (
@@ -41,7 +41,7 @@ pub returns-clause-row : goal.returns-clause-row
 returns-clause-row g c =
     let s = c.next.inside in
     let k = count_in c.args.t.now.next_values.now in
-    let r = c.args.m.turn.now.next in
+    let r = c.args.turn.now.next in
     let old = c.args.next.now in
     let same = (c.requires.row.columns r c.requires.leads).0 in
     let taken = c.take_at.ensures in
@@ -55,14 +55,14 @@ returns-clause-taken g c =
     let s = c.next.inside in
     let t = c.args.t.now in
     let k = count_in t.next_values.now in
-    let r = c.args.m.turn.now.next in
+    let r = c.args.turn.now.next in
     let old = c.args.next.now in
     let same = (c.requires.row.columns r c.requires.leads).0 in
     let taken = c.take_at.ensures in
     move_taken g.row.N (length old) k r old taken.column _ c.requires.row c.requires.leads
     (row_written s.states s.stride s.count k s.hulls.items c.deref_mut.result.now old r c.next.invariant.0 c.next.invariant.1 c.next.view_is
     c.requires.leads c.deref_mut.ensures.value same taken.column c.take_at.new.hulls s.hulls.len (sym s.hulls.ok.0) taken.packed.0 taken.written)
-    t c.args.m.on (move_of c.args.m.turn.now) t.registers refl refl
-    (subst (λ z. HasMoved g.row.N t c.args.m.on (move_of c.args.m.turn.now) z taken.column)
+    t c.args.on (move_of c.args.turn.now) t.registers refl refl
+    (subst (λ z. HasMoved g.row.N t c.args.on (move_of c.args.turn.now) z taken.column)
     (lent_column s.states s.stride s.count k s.hulls.items c.deref_mut.result.now old r c.next.invariant.0 c.next.invariant.1 c.next.view_is
     c.requires.leads c.deref_mut.ensures.value same) taken.moved)

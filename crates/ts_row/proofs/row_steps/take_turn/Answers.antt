@@ -1,4 +1,3 @@
-use Rattle.std.proofs.Common.{◌∙◌}
 use Rattle.ts_automaton.specs.Body.{move_of}
 use Rattle.ts_row.specs.Plans.{is_equal}
 use Rattle.ts_row.proofs.Equals.{moved_read}
@@ -12,12 +11,7 @@ returns-then-take_shape-clause-moved g c =
     moved_read _ c.args.t.now c.args.m.on m _ _
     (c.take_shape.ensures.taken c.if-take_shape.true (here_move (is_equal c.args.m.on.letter) m) c.requires.shape)
 
-pub returns-then-take_tree-clause-moved : goal.returns-then-take_tree-clause-moved
-returns-then-take_tree-clause-moved g c =
-    moved_from _ c.args.t.now c.args.m.on (move_of c.args.m.turn.now) _ _ _ (c.take_shape.ensures.kept c.if-take_shape.false)
-    (c.take_tree.ensures.moved c.if-take_tree.true)
-
 pub returns-clause-moved : goal.returns-clause-moved
 returns-clause-moved g c =
-    moved_from _ c.args.t.now c.args.m.on (move_of c.args.m.turn.now) _ _ _
-    (c.take_tree.ensures.kept c.if-take_tree.false ∙ c.take_shape.ensures.kept c.if-take_shape.false) c.take_by_pairs.ensures.moved
+    moved_from _ c.args.t.now c.args.m.on (move_of c.args.m.turn.now) _ _ _ (c.take_shape.ensures.kept c.if-take_shape.false)
+    c.take_other.ensures.moved
