@@ -1,6 +1,6 @@
 -- Ends that lie under small ones are small; so are numbers that are added of such hulls.
 use mir.Val.{SFits, of_z, to_z}
-use Rattle.std.proofs.Common.{w64, ◌≡◌, ◌⊎◌, ◌+◌, ◌<◌, ◌≤ℤ◌, ℕ, ℤ, Bool, true, false, ◌||◌, List, get_or, refl, sym, ap, subst, ◌∙◌, ⊎_elim, arith}
+use Rattle.std.proofs.Common.{w64, ◌≡◌, ◌⊎◌, ◌+◌, ◌<◌, ◌≤ℤ◌, ℕ, ℤ, Bool, true, false, ◌||◌, List, get_or, inl, inr, refl, sym, ap, subst, ◌∙◌, ⊎_elim, arith}
 use Rattle.std.proofs.lemmas.Int.{ints, to_z-of_z}
 use Rattle.std.specs.Int.{int_max}
 use Rattle.ts_base.specs.declared.op.Op.{Op}
@@ -14,11 +14,13 @@ use Rattle.ts_sweep.specs.Fronts.{ArePlain}
 use Rattle.ts_sweep.specs.Packed.{ends, max_ends}
 use Rattle.ts_sweep.specs.Sides.{sides}
 use Rattle.ts_meet.specs.declared.gluing.Gluing.{Gluing}
-use Rattle.ts_meet.specs.declared.joints.Joints.{Joints}
 use Rattle.ts_meet.specs.declared.peaks.Peaks.{Peaks}
-use Rattle.ts_meet.specs.Joints.{IsOpenPlain, IsPlain, is_add}
-use Rattle.ts_meet.specs.Peaks.{AreAllUnder, AreBelow, AreTaken, AreWatched, IsBelow, IsHullUnder, IsUnder, sides_of_peaks}
-use Rattle.ts_meet.specs.Sides.{side_of}
+use Rattle.ts_meet.specs.declared.small.Small.{Small}
+use Rattle.ts_meet.specs.declared.column.Watched.{Watched}
+use Rattle.ts_glue.specs.declared.operand.Part.TheVariants.{Whole, Away}
+use Rattle.ts_meet.specs.Joints.{IsFoldPlain, IsHeldPlain, IsOpenPlain, IsPlain, folds_held, is_add}
+use Rattle.ts_meet.specs.Peaks.{AreBelow, AreRestSmall, AreTaken, AreWatched, AreAllSo, IsBelow, IsHullSo, IsKnown, IsSmall, IsUnder, sides_of_peaks}
+use Rattle.ts_meet.specs.Sides.{IsInfinity, side_of}
 
 -- the greatest of a number and two ends is above all three
 
@@ -80,54 +82,95 @@ open_below Max e top h p = let b = h.1 in omega (arith, ints, b, p)
 open_below Min e top h p = let a = h.0 in omega (arith, ints, a, p)
 
 pub plain_within : (g : Gluing) (k l : Peaks) (a b : EachOf Ends) → g.wide ≡ false → IsPlain g (sides_of_peaks k) (sides_of_peaks l) →
-    ((is_add g.result || is_add g.fold) ≡ true → IsUnder k a × IsUnder l b) → IsPlain g a b
-plain_within g k l a b narrow p under = record {
-  results = λ e. let u = under (left_or (is_add g.result) (is_add g.fold) e) in let rs = p.results e in
-      (plain_below a.r k.r u.0.2 rs.0, plain_below b.r l.r u.1.2 rs.1);
-  apart = λ n e j. let u = under (left_or (is_add g.result) (is_add g.fold) e) in let cs = p.apart n e j in
-      (plain_below a.c k.c u.0.0 cs.0, plain_below b.c l.c u.1.0 cs.1);
+    IsUnder k a → IsUnder l b → IsPlain g a b
+plain_within g k l a b narrow p u v = record {
+  results = λ e. let rs = p.results e in (plain_below a.r k.r u.2 rs.0, plain_below b.r l.r v.2 rs.1);
+  apart = λ n e j. let cs = p.apart n e j in (plain_below a.c k.c u.0 cs.0, plain_below b.c l.c v.0 cs.1);
   held = λ w j. never_added (sym w ∙ narrow);
-  folded = λ n e j. let u = under e in let f = p.folded n e j in record {
-    left_open = open_below g.fold a.d k.d u.0.1 f.left_open;
-    right_open = open_below g.fold b.d l.d u.1.1 f.right_open;
-    left_held = λ h. plain_below a.c k.c u.0.0 (f.left_held h);
-    right_held = λ h. plain_below b.c l.c u.1.0 (f.right_held h);
+  folded = λ n e j. let f = p.folded n e j in record {
+    left_open = open_below g.fold a.d k.d u.1 f.left_open;
+    right_open = open_below g.fold b.d l.d v.1 f.right_open;
+    left_held = λ h. plain_below a.c k.c u.0 (f.left_held h);
+    right_held = λ h. plain_below b.c l.c v.0 (f.right_held h);
   };
   spread = λ w j. never_added (sym w ∙ narrow);
 }
 
--- hulls under such ends are taken at each place
-pub all_taken : (n : ℕ) (g : Gluing) (j : Joints) (k l : Peaks) (left right : List (PackedHull n)) (from count : ℕ) →
-    ((a b : EachOf Ends) → ((is_add g.result || is_add g.fold) ≡ true → IsUnder k a × IsUnder l b) → IsPlain g a b) →
-    ((is_add g.result || is_add g.fold) ≡ true → (is_add j.result || is_add j.fold) ≡ true) →
-    AreWatched n j k left from count → AreWatched n j l right from count → AreTaken n (IsPlain g) left right from count
-all_taken n g j k l left right from count plain adds first second i before here there =
-    let a = side_of (sides n) (lanes_of n (get_or left (from + i) (nothing n))) in
-    let b = side_of (sides n) (lanes_of n (get_or right (from + i) (nothing n))) in
-    plain a b (λ e. (first (adds e) i before here, second (adds e) i before there))
+-- where nothing is added no number has to be small
+pub plain_free : (g : Gluing) (a b : EachOf Ends) → g.wide ≡ false → (is_add g.result || is_add g.fold) ≡ false → IsPlain g a b
+plain_free g a b narrow free = record {
+  results = λ e. never_added (sym (left_or (is_add g.result) (is_add g.fold) e) ∙ free);
+  apart = λ n e j. never_added (sym (left_or (is_add g.result) (is_add g.fold) e) ∙ free);
+  held = λ w j. never_added (sym w ∙ narrow);
+  folded = λ n e j. never_added (sym e ∙ free);
+  spread = λ w j. never_added (sym w ∙ narrow);
+}
+
+-- wide registers, of which less is known with one hull more
+pub small_kept : (k m : Small) (a : EachOf Ends) → (m.cells ≡ true → k.cells ≡ true) → (m.held ≡ true → k.held ≡ true) →
+    (m.results ≡ true → k.results ≡ true) → IsSmall k a → IsSmall m a
+small_kept k m a f g h s = (λ e. let u = s.0 (f e) in (u.0, u.1, λ r. u.2 (h r)), λ e. s.1 (g e))
+
+held_small : (v : Bool) (a : EachOf Ends) → ArePlain a.e → ArePlain a.c ⊎ IsInfinity a.c → (v ≡ true → ArePlain a.c) → IsHeldPlain v a
+held_small true a e c h = (e, inl (h refl))
+held_small false a e (inl c) h = (e, inl c)
+held_small false a e (inr c) h = (e, inr (refl, c))
+
+pub small_apart : (g : Gluing) (k l : Small) (a b : EachOf Ends) → g.wide ≡ true → g.joins ≡ false → k.cells ≡ true → l.cells ≡ true →
+    (is_add g.result ≡ true → (k.results ≡ true) × (l.results ≡ true)) → (is_add g.result ≡ true → (k.held ≡ true) × (l.held ≡ true)) →
+    IsSmall k a → IsSmall l b → IsPlain g a b
+small_apart g k l a b wide none here there results held s t = record {
+  results = λ e. let r = results e in ((s.0 here).2 r.0, (t.0 there).2 r.1);
+  apart = λ n e j. never_added (sym wide ∙ n);
+  held = λ w j. let u = s.0 here in let v = t.0 there in
+      (held_small (is_add g.result) a u.0.0 u.1 (λ e. s.1 (held e).0), held_small (is_add g.result) b v.0.0 v.1 (λ e. t.1 (held e).1));
+  folded = λ n e j. never_added (sym wide ∙ n);
+  spread = λ w j. never_added (sym j ∙ none);
+}
+
+open_greatest : (o : Op) (e : Ends) → o ≡ Max → IsOpenPlain Max e → IsOpenPlain o e
+open_greatest o e is h = subst (λ z. IsOpenPlain z e) (sym is) h
+
+pub small_joined : (g : Gluing) (k l : Small) (a b : EachOf Ends) → g.wide ≡ true → g.joins ≡ true → k.cells ≡ true → l.cells ≡ true →
+    (is_add g.result ≡ true → (k.results ≡ true) × (l.results ≡ true)) → g.fold ≡ Max →
+    (folds_held g.trims g.held_left ≡ true → k.held ≡ true) → (folds_held g.trims g.held_right ≡ true → l.held ≡ true) →
+    IsSmall k a → IsSmall l b → IsPlain g a b
+small_joined g k l a b wide joins here there results greatest left right s t = record {
+  results = λ e. let r = results e in ((s.0 here).2 r.0, (t.0 there).2 r.1);
+  apart = λ n e j. never_added (sym wide ∙ n);
+  held = λ w j. never_added (sym joins ∙ j);
+  folded = λ n e j. never_added (sym wide ∙ n);
+  spread = λ w j. (ap is_add greatest, whole (s.0 here).0 (t.0 there).0, away (s.0 here).0 (t.0 there).0);
+}
+  where
+    whole : AreRestSmall a → AreRestSmall b → IsFoldPlain Whole g.fold g a b
+    whole u v = record {
+      left_open = open_greatest g.fold a.d greatest u.1;
+      right_open = open_greatest g.fold b.d greatest v.1;
+      left_held = λ h. s.1 (left h);
+      right_held = λ h. t.1 (right h);
+    }
+
+    away : AreRestSmall a → AreRestSmall b → IsFoldPlain Away Min g a b
+    away u v = record { left_open = u.2; right_open = v.2; left_held = λ h. u.0; right_held = λ h. v.0 }
+
+-- hulls of which this is known are taken at each place
+pub all_taken : (n : ℕ) (g : Gluing) (k l : Watched) (left right : List (PackedHull n)) (from count : ℕ) →
+    ((a b : EachOf Ends) → IsKnown k a → IsKnown l b → IsPlain g a b) →
+    AreWatched n k left from count → AreWatched n l right from count → AreTaken n (IsPlain g) left right from count
+all_taken n g k l left right from count plain first second i before here there =
+    plain (side_of (sides n) (lanes_of n (get_or left (from + i) (nothing n)))) (side_of (sides n) (lanes_of n (get_or right (from + i) (nothing n))))
+    (first i before here) (second i before there)
 
 below_or_same : (i k : ℕ) → i < k + 1 → (i < k) ⊎ (i ≡ k)
 below_or_same i k l = grind arith
 
--- those of one hull more
-pub all_under_more : (n : ℕ) (k m : Peaks) (hulls : List (PackedHull n)) (from i : ℕ) (h : PackedHull n) →
-    ((a : EachOf Ends) → IsUnder k a → IsUnder m a) → IsHullUnder n m h → h ≡ get_or hulls (from + i) (nothing n) →
-    AreAllUnder n k hulls from i → AreAllUnder n m hulls from (i + 1)
-all_under_more n k m hulls from i h kept added is before j l =
+-- what is so of one hull more
+pub all_so_more : (n : ℕ) (Was Is : EachOf Ends → Type 0) (hulls : List (PackedHull n)) (from i : ℕ) (h : PackedHull n) →
+    ((a : EachOf Ends) → Was a → Is a) → IsHullSo n Is h → h ≡ get_or hulls (from + i) (nothing n) →
+    AreAllSo n Was hulls from i → AreAllSo n Is hulls from (i + 1)
+all_so_more n Was Is hulls from i h kept added is before j l =
     ⊎_elim
     (λ b some. kept (side_of (sides n) (lanes_of n (get_or hulls (from + j) (nothing n)))) (before j b some))
-    (λ e. subst (λ x. IsHullUnder n m (get_or hulls (from + x) (nothing n))) (sym e) (subst (IsHullUnder n m) is added))
+    (λ e. subst (λ x. IsHullSo n Is (get_or hulls (from + x) (nothing n))) (sym e) (subst (IsHullSo n Is) is added))
     (below_or_same j i l)
-
--- what joins results, and folds cells, adds where the joints do
-
-either_or : (u v : Bool) → (u || u) ≡ true → (u || v) ≡ true
-either_or true v e = refl
-either_or false v e = never_added (sym e)
-
-pub adds_alone : (o f r s : Op) → o ≡ r → f ≡ r → (is_add o || is_add f) ≡ true → (is_add r || is_add s) ≡ true
-adds_alone o f r s p q e =
-    either_or (is_add r) (is_add s) (sym (ap (λ z. is_add z || is_add f) p ∙ ap (λ z. is_add r || is_add z) q) ∙ e)
-
-pub adds_both : (o f r s : Op) → o ≡ r → f ≡ s → (is_add o || is_add f) ≡ true → (is_add r || is_add s) ≡ true
-adds_both o f r s p q e = sym (ap (λ z. is_add z || is_add f) p ∙ ap (λ z. is_add r || is_add z) q) ∙ e

@@ -1,20 +1,24 @@
--- How far out the ends of the registers of many hulls lie.
-use Rattle.std.specs.Prelude.{◌≡◌, ◌<◌, ◌+◌, ◌≤ℤ◌, ℕ, ℤ, pos, true, ◌||◌, List, get_or}
+-- How far out the ends of the registers of many hulls lie, or that they are small.
+use Rattle.std.specs.Prelude.{◌≡◌, ◌⊎◌, ◌<◌, ◌+◌, ◌≤ℤ◌, ℕ, ℤ, true, List, get_or}
+use Rattle.ts_base.specs.declared.op.Op.TheVariants.{Max, Min}
 use Rattle.ts_automaton.specs.Registers.{EachOf, each}
 use Rattle.ts_row.specs.Rows.{lanes_of, nothing}
 use Rattle.ts_sweep.specs.declared.packed.Ends.{Ends}
 use Rattle.ts_sweep.specs.declared.packed.PackedHull.{PackedHull}
+use Rattle.ts_sweep.specs.Fronts.{ArePlain}
 use Rattle.ts_sweep.specs.Lanes.{some_lanes}
 use Rattle.ts_sweep.specs.Packed.{ends}
 use Rattle.ts_sweep.specs.Sides.{sides}
-use Rattle.ts_meet.specs.declared.joints.Joints.{Joints}
 use Rattle.ts_meet.specs.declared.peaks.Peaks.{Peaks}
-use Rattle.ts_meet.specs.Joints.{is_add}
-use Rattle.ts_meet.specs.Sides.{side_of}
+use Rattle.ts_meet.specs.declared.small.Small.{Small}
+use Rattle.ts_meet.specs.declared.column.Watched.{Watched}
+use Rattle.ts_meet.specs.declared.column.Watched.TheVariants.{Nothing, Narrow, Wide}
+use Rattle.ts_meet.specs.Joints.{IsOpenPlain}
+use Rattle.ts_meet.specs.Sides.{IsInfinity, side_of}
 
--- the peaks of a column that isn't there
-abbrev pub no_peaks : Peaks
-no_peaks = record { c = pos 0; d = ends (pos 0) (pos 0); r = pos 0 }
+-- what is known of a column that isn't there
+abbrev pub unwatched : Watched
+unwatched = Nothing
 
 -- narrow registers with these ends
 abbrev pub sides_of_peaks : Peaks → EachOf Ends
@@ -31,17 +35,36 @@ AreBelow e top = (e.below ≤ℤ top.below) × (e.above ≤ℤ top.above)
 abbrev pub IsUnder : Peaks → EachOf Ends → Type 0
 IsUnder k a = IsBelow a.c k.c × AreBelow a.d k.d × IsBelow a.r k.r
 
--- the registers of a hull are under the peaks, if they lie in it; those of the hulls at so many places from one on
-abbrev pub IsHullUnder : (n : ℕ) → Peaks → PackedHull n → Type 0
-IsHullUnder n k h = some_lanes (lanes_of n h) ≡ true → IsUnder k (side_of (sides n) (lanes_of n h))
+-- what is taken away is small, and cells that may still come leave the greatest and the least small
+abbrev pub AreRestSmall : EachOf Ends → Type 0
+AreRestSmall a = ArePlain a.e × IsOpenPlain Max a.d × IsOpenPlain Min a.f
+
+-- so are wide registers of which this is known
+abbrev pub IsSmall : Small → EachOf Ends → Type 0
+IsSmall k a =
+    (k.cells ≡ true → AreRestSmall a × (ArePlain a.c ⊎ IsInfinity a.c) × (k.results ≡ true → ArePlain a.r))
+    × (k.held ≡ true → ArePlain a.c)
+
+abbrev pub IsKnown : Watched → EachOf Ends → Type 0
+IsKnown Nothing a = Unit {0}
+IsKnown (Narrow k) a = IsUnder k a
+IsKnown (Wide k) a = IsSmall k a
+
+-- the registers of a hull are so, if they lie in it; those of the hulls at so many places from one on
+abbrev pub IsHullSo : (n : ℕ) → (EachOf Ends → Type 0) → PackedHull n → Type 0
+IsHullSo n Is h = some_lanes (lanes_of n h) ≡ true → Is (side_of (sides n) (lanes_of n h))
+
+abbrev pub AreAllSo : (n : ℕ) → (EachOf Ends → Type 0) → List (PackedHull n) → (from count : ℕ) → Type 0
+AreAllSo n Is hulls from count = (i : ℕ) → i < count → IsHullSo n Is (get_or hulls (from + i) (nothing n))
 
 abbrev pub AreAllUnder : (n : ℕ) → Peaks → List (PackedHull n) → (from count : ℕ) → Type 0
-AreAllUnder n k hulls from count = (i : ℕ) → i < count → IsHullUnder n k (get_or hulls (from + i) (nothing n))
+AreAllUnder n k = AreAllSo n (IsUnder k)
 
--- the hulls at so many places are under the peaks where the joints add anything
-abbrev pub AreWatched : (n : ℕ) → Joints → Peaks → List (PackedHull n) → (from count : ℕ) → Type 0
-AreWatched n j k hulls from count =
-    (is_add j.result || is_add j.fold) ≡ true → AreAllUnder n k hulls from count
+abbrev pub AreAllSmall : (n : ℕ) → Small → List (PackedHull n) → (from count : ℕ) → Type 0
+AreAllSmall n k = AreAllSo n (IsSmall k)
+
+abbrev pub AreWatched : (n : ℕ) → Watched → List (PackedHull n) → (from count : ℕ) → Type 0
+AreWatched n k = AreAllSo n (IsKnown k)
 
 -- what a way to glue takes, if registers lie in both hulls; so at so many places from one on
 abbrev pub IsTaken : (n : ℕ) → (EachOf Ends → EachOf Ends → Type 0) → (left right : PackedHull n) → Type 0

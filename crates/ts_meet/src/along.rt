@@ -10,19 +10,19 @@ ghost use Rattle.ts_glue.specs.Pairs.{Pair};
 ghost use Rattle.ts_meet.specs.Along.{AreCellValues, glued_along, hull_over, pair_along, with_along};
 ghost use Rattle.ts_meet.specs.Joints.{AreJoints, IsGluing, expression, numbered, numbered_mark};
 ghost use Rattle.ts_meet.specs.Meets.{glued_seen};
-ghost use Rattle.ts_meet.specs.Peaks.{AreTaken, AreWatched, IsTaken, no_peaks};
+ghost use Rattle.ts_meet.specs.Peaks.{AreTaken, AreWatched, IsTaken, unwatched};
 ghost use Rattle.ts_meet.specs.Settled.{ArePlaces, HavePlaces, with_hull};
 ghost use Rattle.ts_meet.specs.Sides.{StandFor};
 ghost use Rattle.ts_row.specs.Rows.{lanes_of};
 ghost use Rattle.ts_sweep.specs.Packed.{IsPacked};
 ghost use Rattle.ts_sweep.specs.Sides.{BothEnds, lane_count, sides};
 
+use crate::column::{Watched, watched_in};
 use crate::fold::{CELLS, GREATEST, LEAST, SAME, SUM, ZERO, numbered, numbered_mark};
-use crate::gluing::Gluing;
+use crate::gluing::{Gluing, is_greatest};
 use crate::joints::{Joints, STATES};
 use crate::marked::{hull_of_both, joined, marked_by, nothing, span_of};
-use crate::peaks::{Peaks, peaks_of};
-use crate::seam::{Any, Apart, Between, Both, PlainApart, Seam, Spread};
+use crate::seam::{Any, Apart, Between, Both, PlainApart, Seam, Through};
 use ts_automaton::{Mark, Op};
 use ts_base::Span;
 use ts_row::RowView;
@@ -75,13 +75,7 @@ fn along_by<const O: u8, const N: usize>(
     ensures { (p : Pair) → AreJoints p joints.now →
         result ≡ glued_along N p left.now right.now from values.now cells }
 {
-    let seconds = peaks_of::<O, N>(
-        joints.adds(),
-        joints.right_states,
-        right,
-        from,
-        values.len(),
-    );
+    let seconds = watched_in::<O, N>(joints, joints.right_states, right, from, values.len());
     let mut hull = nothing();
     for q in 0..joints.left_states {
         hull = with_columns::<O, N>(
@@ -107,7 +101,7 @@ fn with_columns<const O: u8, const N: usize>(
     q: u8,
     left: &[PackedHull<N>],
     right: &RowView<'_, N>,
-    seconds: &[Peaks; STATES],
+    seconds: &[Watched; STATES],
     values: &[i64],
     from: usize,
     cells: u32,
@@ -120,14 +114,15 @@ fn with_columns<const O: u8, const N: usize>(
     requires left { ArePlaces N (from + length values.now) left.now }
     requires right { HavePlaces N joints.now.right_states (from + length values.now) right.now }
     requires seconds { (r : ℕ) → r < joints.now.right_states →
-        AreWatched N joints.now (get_or seconds.now r no_peaks) (get_or right.now r []) from (length values.now) }
+        AreWatched N (get_or seconds.now r unwatched) (get_or right.now r []) from (length values.now) }
     requires values { AreCellValues values.now }
     ensures { (p : Pair) (so_far : ℕ → Span) → AreJoints p joints.now →
         StandFor hull (hull_over so_far (length values.now)) → StandFor result (hull_over
         (with_along N p q left.now right.now from values.now cells (length p.reverse.states) so_far)
         (length values.now)) }
 {
-    let first = Peaks::of::<O, N>(joints.adds(), left, from, values.len());
+    let needed = joints.watches_left(q);
+    let first = Watched::over::<O, N>(needed, joints.wide, left, from, values.len());
     let mut all = hull;
     for r in 0..joints.right_states {
         let second = seconds[r as usize];
@@ -154,8 +149,8 @@ fn along_pair<const O: u8, const N: usize>(
     joints: &Joints,
     q: u8,
     r: u8,
-    first: Peaks,
-    second: Peaks,
+    first: Watched,
+    second: Watched,
     left: &[PackedHull<N>],
     right: &[PackedHull<N>],
     values: &[i64],
@@ -170,8 +165,8 @@ fn along_pair<const O: u8, const N: usize>(
     requires other { r < joints.now.right_states }
     requires left { ArePlaces N (from + length values.now) left.now }
     requires right { ArePlaces N (from + length values.now) right.now }
-    requires first { AreWatched N joints.now first left.now from (length values.now) }
-    requires second { AreWatched N joints.now second right.now from (length values.now) }
+    requires first { AreWatched N first left.now from (length values.now) }
+    requires second { AreWatched N second right.now from (length values.now) }
     requires values { AreCellValues values.now }
     ensures { (p : Pair) → AreJoints p joints.now → StandFor result
         (pair_along N p q r left.now right.now from values.now cells (length values.now)) }
@@ -188,8 +183,8 @@ fn along_pair<const O: u8, const N: usize>(
 /// The hull where no occurrence goes on from one state to the other.
 fn along_apart<const O: u8, const N: usize>(
     joints: &Joints,
-    first: Peaks,
-    second: Peaks,
+    first: Watched,
+    second: Watched,
     left: &[PackedHull<N>],
     right: &[PackedHull<N>],
     values: &[i64],
@@ -201,23 +196,49 @@ fn along_apart<const O: u8, const N: usize>(
     requires operator { numbered O ≡ joints.now.result }
     requires left { ArePlaces N (from + length values.now) left.now }
     requires right { ArePlaces N (from + length values.now) right.now }
-    requires first { AreWatched N joints.now first left.now from (length values.now) }
-    requires second { AreWatched N joints.now second right.now from (length values.now) }
+    requires first { AreWatched N first left.now from (length values.now) }
+    requires second { AreWatched N second right.now from (length values.now) }
     requires values { AreCellValues values.now }
     ensures { (p : Pair) (q r : ℕ) → AreJoints p joints.now → is_join p.table q r ≡ false → StandFor result
         (pair_along N p q r left.now right.now from values.now cells (length values.now)) }
 {
     if joints.wide {
-        let gluing = Gluing::apart(numbered(O), true);
-        let seam = Apart::<O, true>;
-        return along_glued(seam, joints, gluing, left, right, values, from, cells);
+        along_apart_by::<O, true, N>(joints, first, second, left, right, values, from, cells)
+    } else {
+        along_apart_by::<O, false, N>(joints, first, second, left, right, values, from, cells)
     }
-    let gluing = Gluing::apart(numbered(O), false);
+}
+
+/// The hull where no occurrence goes on. `WIDE` is whether the automata are wide.
+#[inline(always)]
+fn along_apart_by<const O: u8, const WIDE: bool, const N: usize>(
+    joints: &Joints,
+    first: Watched,
+    second: Watched,
+    left: &[PackedHull<N>],
+    right: &[PackedHull<N>],
+    values: &[i64],
+    from: usize,
+    cells: u32,
+) -> Ends
+    requires registers { 6 ≤ lane_count N }
+    requires alone { (sides N ≡ BothEnds) ⊎ (joints.now.wide ≡ false) }
+    requires operator { numbered O ≡ joints.now.result }
+    requires width { WIDE ≡ joints.now.wide }
+    requires left { ArePlaces N (from + length values.now) left.now }
+    requires right { ArePlaces N (from + length values.now) right.now }
+    requires first { AreWatched N first left.now from (length values.now) }
+    requires second { AreWatched N second right.now from (length values.now) }
+    requires values { AreCellValues values.now }
+    ensures { (p : Pair) (q r : ℕ) → AreJoints p joints.now → is_join p.table q r ≡ false → StandFor result
+        (pair_along N p q r left.now right.now from values.now cells (length values.now)) }
+{
+    let gluing = Gluing::apart(numbered(O), WIDE);
     if gluing.is_plain_within(first, second) {
-        let seam = PlainApart::<O>;
+        let seam = PlainApart::<O, WIDE>;
         along_glued(seam, joints, gluing, left, right, values, from, cells)
     } else {
-        let seam = Apart::<O, false>;
+        let seam = Apart::<O, WIDE>;
         along_glued(seam, joints, gluing, left, right, values, from, cells)
     }
 }
@@ -228,8 +249,8 @@ fn along_joined<const O: u8, const N: usize>(
     joints: &Joints,
     q: u8,
     r: u8,
-    first: Peaks,
-    second: Peaks,
+    first: Watched,
+    second: Watched,
     left: &[PackedHull<N>],
     right: &[PackedHull<N>],
     values: &[i64],
@@ -243,14 +264,16 @@ fn along_joined<const O: u8, const N: usize>(
     requires other { r < joints.now.right_states }
     requires left { ArePlaces N (from + length values.now) left.now }
     requires right { ArePlaces N (from + length values.now) right.now }
-    requires first { AreWatched N joints.now first left.now from (length values.now) }
-    requires second { AreWatched N joints.now second right.now from (length values.now) }
+    requires first { AreWatched N first left.now from (length values.now) }
+    requires second { AreWatched N second right.now from (length values.now) }
     requires values { AreCellValues values.now }
     ensures { (p : Pair) → AreJoints p joints.now → is_join p.table q r ≡ true → StandFor result
         (pair_along N p q r left.now right.now from values.now cells (length values.now)) }
 {
     if joints.wide {
-        return along_spread::<O, N>(joints, q, r, left, right, values, from, cells);
+        return along_spread::<O, N>(
+            joints, q, r, first, second, left, right, values, from, cells,
+        );
     }
     match joints.fold {
         Op::Add => along_folded::<O, SUM, N>(
@@ -271,6 +294,8 @@ fn along_spread<const O: u8, const N: usize>(
     joints: &Joints,
     q: u8,
     r: u8,
+    first: Watched,
+    second: Watched,
     left: &[PackedHull<N>],
     right: &[PackedHull<N>],
     values: &[i64],
@@ -285,17 +310,18 @@ fn along_spread<const O: u8, const N: usize>(
     requires other { r < joints.now.right_states }
     requires left { ArePlaces N (from + length values.now) left.now }
     requires right { ArePlaces N (from + length values.now) right.now }
+    requires first { AreWatched N first left.now from (length values.now) }
+    requires second { AreWatched N second right.now from (length values.now) }
     requires values { AreCellValues values.now }
     ensures { (p : Pair) → AreJoints p joints.now → is_join p.table q r ≡ true → StandFor result
         (pair_along N p q r left.now right.now from values.now cells (length values.now)) }
 {
     let gluing = joints.joined(numbered(O), joints.fold, q, r);
-    match joints.fold {
-        Op::Max => {
-            let seam = Spread::<O, GREATEST>;
-            along_glued(seam, joints, gluing, left, right, values, from, cells)
-        }
-        Op::Add | Op::Min => { along_glued(Any, joints, gluing, left, right, values, from, cells) }
+    if is_greatest(joints.fold) && gluing.is_plain_within(first, second) {
+        let seam = Through::<O, GREATEST>;
+        along_glued(seam, joints, gluing, left, right, values, from, cells)
+    } else {
+        along_glued(Any, joints, gluing, left, right, values, from, cells)
     }
 }
 
@@ -306,8 +332,8 @@ fn along_folded<const O: u8, const F: u8, const N: usize>(
     joints: &Joints,
     q: u8,
     r: u8,
-    first: Peaks,
-    second: Peaks,
+    first: Watched,
+    second: Watched,
     left: &[PackedHull<N>],
     right: &[PackedHull<N>],
     values: &[i64],
@@ -323,8 +349,8 @@ fn along_folded<const O: u8, const F: u8, const N: usize>(
     requires other { r < joints.now.right_states }
     requires left { ArePlaces N (from + length values.now) left.now }
     requires right { ArePlaces N (from + length values.now) right.now }
-    requires first { AreWatched N joints.now first left.now from (length values.now) }
-    requires second { AreWatched N joints.now second right.now from (length values.now) }
+    requires first { AreWatched N first left.now from (length values.now) }
+    requires second { AreWatched N second right.now from (length values.now) }
     requires values { AreCellValues values.now }
     ensures { (p : Pair) → AreJoints p joints.now → is_join p.table q r ≡ true → StandFor result
         (pair_along N p q r left.now right.now from values.now cells (length values.now)) }

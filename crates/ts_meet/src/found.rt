@@ -1,6 +1,6 @@
 //! How the runs of a machine are glued, worked out once for a machine.
 
-ghost use Rattle.std.specs.Prelude.{◌≡◌, ℕ, ◌<◌, ℤ, ◌||◌, true, false, [], IfSome, IsSome, get_or, length};
+ghost use Rattle.std.specs.Prelude.{◌≡◌, ℕ, ◌<◌, ℤ, true, false, [], IfSome, IsSome, get_or, length};
 ghost use Rattle.ts_automaton.specs.Body.{node_at};
 ghost use Rattle.ts_automaton.specs.Formula.{formula};
 ghost use Rattle.ts_base.specs.Limits.{IsCellValue};
@@ -100,12 +100,36 @@ impl Joints {
         }
     }
 
-    /// Whether anything is added where registers are glued.
-    #[inline(always)]
-    pub(crate) fn adds(&self) -> bool
-        ensures { result ≡ (is_add self.now.result || is_add self.now.fold) }
+    /// Whether ends are watched in the column of a state on the left: where results are added, or the cells of an
+    /// occurrence that goes on from it.
+    pub(crate) fn watches_left(&self, q: u8) -> bool
+        requires { q < 8 }
     {
-        is_add(self.result) || is_add(self.fold)
+        if is_add(self.result) {
+            return true;
+        }
+        for r in 0..self.right_states {
+            if self.joins[q as usize][r as usize] {
+                return is_add(self.fold);
+            }
+        }
+        false
+    }
+
+    /// Whether ends are watched in the column of a state on the right: where results are added, or the cells of an
+    /// occurrence that goes on to it.
+    pub(crate) fn watches_right(&self, r: u8) -> bool
+        requires { r < 8 }
+    {
+        if is_add(self.result) {
+            return true;
+        }
+        for q in 0..self.left_states {
+            if self.joins[q as usize][r as usize] {
+                return is_add(self.fold);
+            }
+        }
+        false
     }
 
     /// Whether one occurrence goes on from a state to another.

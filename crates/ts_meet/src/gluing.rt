@@ -1,8 +1,9 @@
 //! What is made of the registers on both sides of a cell.
 
-ghost use Rattle.std.specs.Prelude.{◌≡◌, ◌⊎◌, ◌≤◌, ◌||◌, true, false, neg_ℤ, pos};
+ghost use Rattle.std.specs.Prelude.{◌≡◌, ◌⊎◌, ◌≤◌, true, false, neg_ℤ, pos};
 ghost use Rattle.ts_automaton.specs.Registers.{EachOf, Takes, spans_of, value_in};
 ghost use Rattle.ts_base.specs.declared.ext.Ext.TheVariants.{Int};
+ghost use Rattle.ts_base.specs.declared.op.Op.TheVariants.{Max};
 ghost use Rattle.ts_base.specs.Limits.{IsCellValue};
 ghost use Rattle.ts_glue.specs.Glue.{GlueTakes, apart, fold_of, folded_between, folded_both, glue_in, held_of, result_of};
 ghost use Rattle.ts_hull.specs.Sealed.{sealed_spans};
@@ -20,7 +21,7 @@ ghost use Rattle.ts_meet.specs.Joints.{
   told_joined,
   with_worth,
 };
-ghost use Rattle.ts_meet.specs.Peaks.{IsUnder};
+ghost use Rattle.ts_meet.specs.Peaks.{IsKnown, IsSmall, IsUnder};
 ghost use Rattle.ts_meet.specs.Sides.{TakesPlain, ends_in, plain_values, pointed_spans, side_of};
 ghost use Rattle.ts_sweep.specs.declared.packed.Ends.{Ends};
 ghost use Rattle.ts_row.specs.Rows.{lanes_of};
@@ -28,8 +29,10 @@ ghost use Rattle.ts_sweep.specs.Fronts.{ArePlain};
 ghost use Rattle.ts_sweep.specs.Packed.{AreSome, IsPackOf, unpacked};
 ghost use Rattle.ts_sweep.specs.Sides.{BothEnds, lane_count, seen, sides};
 
+use crate::column::Watched;
 use crate::peaks::Peaks;
 use crate::side::{Side, are_plain, is_open_plain, shown};
+use crate::small::Small;
 use crate::sums::{Clamped, Plain, Sums, is_infinity};
 use ts_automaton::{Op, Operator};
 use ts_glue::Part;
@@ -161,26 +164,6 @@ impl Gluing {
         shown::<N>(self.pointed_apart(left, right))
     }
 
-    /// The glued ends of two hulls before the mark, where one occurrence goes on.
-    #[inline(always)]
-    pub(crate) fn glued_joined<const N: usize>(
-        self,
-        left: &PackedHull<N>,
-        right: &PackedHull<N>,
-    ) -> Ends
-        requires registers { 6 ≤ lane_count N }
-        requires alone { (sides N ≡ BothEnds) ⊎ (self.wide ≡ false) }
-        requires left { AreSome (lane_count N) (lanes_of N left.now) }
-        requires right { AreSome (lane_count N) (lanes_of N right.now) }
-        requires worth { IsCellValue self.worth }
-        requires joined { self.joins ≡ true }
-        ensures { IsPackOf result (seen (sides N) (glue_in sealed_spans
-            (spans_of (unpacked (lanes_of N left.now))) (spans_of (unpacked (lanes_of N right.now)))
-            (expression self))) }
-    {
-        shown::<N>(self.pointed_joined(left, right))
-    }
-
     /// The glued ends of two hulls before the mark, where no occurrence goes on and all numbers that are added are
     /// small.
     #[inline(always)]
@@ -267,6 +250,46 @@ impl Gluing {
             (expression self))) }
     {
         shown::<N>(self.joined_both(left, right))
+    }
+
+    /// The glued ends of two hulls before the mark, where one occurrence goes on and all numbers that are added or
+    /// taken away are small.
+    #[inline(always)]
+    pub(crate) fn glued_through<const N: usize>(
+        self,
+        left: &PackedHull<N>,
+        right: &PackedHull<N>,
+    ) -> Ends
+        requires registers { 6 ≤ lane_count N }
+        requires alone { (sides N ≡ BothEnds) ⊎ (self.wide ≡ false) }
+        requires left { AreSome (lane_count N) (lanes_of N left.now) }
+        requires right { AreSome (lane_count N) (lanes_of N right.now) }
+        requires worth { IsCellValue self.worth }
+        requires joined { self.joins ≡ true }
+        requires plain { IsPlain self
+            (side_of (sides N) (lanes_of N left.now)) (side_of (sides N) (lanes_of N right.now)) }
+        ensures { IsPackOf result (seen (sides N) (glue_in sealed_spans
+            (spans_of (unpacked (lanes_of N left.now))) (spans_of (unpacked (lanes_of N right.now)))
+            (expression self))) }
+    {
+        shown::<N>(self.joined_plainly(left, right))
+    }
+
+    /// The glued ends of two hulls before the mark, where one occurrence goes on, with the sums of the lanes.
+    #[inline(always)]
+    fn joined_plainly<const N: usize>(self, left: &PackedHull<N>, right: &PackedHull<N>) -> Ends
+        requires registers { 6 ≤ lane_count N }
+        requires left { AreSome (lane_count N) (lanes_of N left.now) }
+        requires right { AreSome (lane_count N) (lanes_of N right.now) }
+        requires worth { IsCellValue self.worth }
+        requires joined { self.joins ≡ true }
+        requires plain { IsPlain self
+            (side_of (sides N) (lanes_of N left.now)) (side_of (sides N) (lanes_of N right.now)) }
+        ensures { IsPackOf result (glue_in sealed_spans
+            (pointed_spans (sides N) (spans_of (unpacked (lanes_of N left.now))))
+            (pointed_spans (sides N) (spans_of (unpacked (lanes_of N right.now)))) (joined_expression self)) }
+    {
+        self.joined_by::<Plain>(Side::of(left), Side::of(right))
     }
 
     /// The glued ends of two hulls before the mark, where the cell lies between both sides of an occurrence and
@@ -563,17 +586,66 @@ impl Gluing {
         S::number(opposite(self.worth))
     }
 
-    /// Whether all numbers that are added are small between hulls of narrow automata whose ends lie within these.
-    pub(crate) fn is_plain_within(self, left: Peaks, right: Peaks) -> bool
+    /// Whether all numbers that are added are small between hulls of which this is known.
+    pub(crate) fn is_plain_within(self, left: Watched, right: Watched) -> bool
+        ensures { (a b : EachOf Ends) → result ≡ true → IsKnown left a → IsKnown right b → IsPlain self a b }
+    {
+        match (left, right) {
+            (Watched::Narrow(first), Watched::Narrow(second)) => !self.wide
+                && self.is_plain_under(first, second),
+            (Watched::Wide(first), Watched::Wide(second)) => self.wide
+                && self.is_plain_small(first, second),
+            _ => !self.wide && self.adds_nothing(),
+        }
+    }
+
+    /// Whether nothing is added between narrow automata.
+    #[inline(always)]
+    fn adds_nothing(self) -> bool
         requires narrow { self.wide ≡ false }
-        ensures { (a b : EachOf Ends) → result ≡ true →
-            ((is_add self.result || is_add self.fold) ≡ true → IsUnder left a × IsUnder right b) → IsPlain self a b }
+        ensures { (a b : EachOf Ends) → result ≡ true → IsPlain self a b }
+    {
+        !(is_add(self.result) || is_add(self.fold))
+    }
+
+    /// Whether all numbers that are added are small between hulls of narrow automata whose ends lie within these.
+    fn is_plain_under(self, left: Peaks, right: Peaks) -> bool
+        requires narrow { self.wide ≡ false }
+        ensures { (a b : EachOf Ends) → result ≡ true → IsUnder left a → IsUnder right b → IsPlain self a b }
     {
         if self.joins {
             self.is_joined_plain(left.side(), right.side())
         } else {
             self.is_apart_plain(left.side(), right.side())
         }
+    }
+
+    /// Whether all numbers that are added or taken away are small between hulls of wide automata of which these
+    /// registers are.
+    fn is_plain_small(self, left: Small, right: Small) -> bool
+        requires wide { self.wide ≡ true }
+        ensures { (a b : EachOf Ends) → result ≡ true → IsSmall left a → IsSmall right b → IsPlain self a b }
+    {
+        let adds = is_add(self.result);
+        if !(left.cells && right.cells && are_if(adds, left.results, right.results)) {
+            return false;
+        }
+        if self.joins {
+            self.is_spread_small(left, right)
+        } else {
+            are_if(adds, left.held, right.held)
+        }
+    }
+
+    /// Whether the greatest is folded, and C is small on each side on which it is folded.
+    #[inline(always)]
+    fn is_spread_small(self, left: Small, right: Small) -> bool
+        ensures { result ≡ true → (self.fold ≡ Max) × (folds_held self.trims self.held_left ≡ true → left.held ≡ true)
+            × (folds_held self.trims self.held_right ≡ true → right.held ≡ true) }
+    {
+        is_greatest(self.fold)
+            && (!folds_held(self.trims, self.held_left) || left.held)
+            && (!folds_held(self.trims, self.held_right) || right.held)
     }
 
     /// Whether all numbers that are added or taken away are small, where no occurrence goes on.
@@ -711,6 +783,25 @@ pub(crate) fn is_add(op: Op) -> bool
     match op {
         Op::Add => true,
         Op::Max | Op::Min => false,
+    }
+}
+
+/// Whether both are so, if they need to be.
+#[inline(always)]
+fn are_if(needed: bool, left: bool, right: bool) -> bool
+    ensures { result ≡ true → needed ≡ true → (left ≡ true) × (right ≡ true) }
+{
+    !needed || left && right
+}
+
+/// Whether an operator is the greatest.
+#[inline(always)]
+pub(crate) fn is_greatest(op: Op) -> bool
+    ensures { result ≡ true → op ≡ Max }
+{
+    match op {
+        Op::Max => true,
+        Op::Add | Op::Min => false,
     }
 }
 

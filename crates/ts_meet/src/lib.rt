@@ -16,6 +16,7 @@
 
 mod along;
 mod asked;
+mod column;
 mod finished;
 mod fold;
 mod found;
@@ -29,6 +30,7 @@ mod peaks;
 mod seam;
 mod settled;
 mod side;
+mod small;
 mod spot;
 mod sums;
 

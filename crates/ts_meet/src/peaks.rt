@@ -1,10 +1,10 @@
 //! How far out the ends of the registers of many hulls lie: where that isn't far, no sum of theirs has to be clamped.
 
-ghost use Rattle.std.specs.Prelude.{◌≡◌, ◌<◌, ◌+◌, ◌≤◌, ◌≤ℤ◌, ℕ, true, [], get_or};
+ghost use Rattle.std.specs.Prelude.{◌≡◌, ◌<◌, ◌+◌, ◌≤◌, ◌≤ℤ◌, true};
 ghost use Rattle.std.specs.Int.{int_max};
 ghost use Rattle.ts_automaton.specs.Registers.{EachOf};
-ghost use Rattle.ts_meet.specs.Peaks.{AreAllUnder, IsBelow, IsUnder, no_peaks, sides_of_peaks};
-ghost use Rattle.ts_meet.specs.Settled.{ArePlaces, HavePlaces};
+ghost use Rattle.ts_meet.specs.Peaks.{AreAllUnder, IsBelow, IsUnder, sides_of_peaks};
+ghost use Rattle.ts_meet.specs.Settled.{ArePlaces};
 ghost use Rattle.ts_meet.specs.Sides.{ends_in, side_of};
 ghost use Rattle.ts_row.specs.Rows.{lanes_of};
 ghost use Rattle.ts_sweep.specs.declared.packed.Ends.{Ends};
@@ -13,10 +13,8 @@ ghost use Rattle.ts_sweep.specs.Packed.{IsPacked, ends};
 ghost use Rattle.ts_sweep.specs.Sides.{lane_count, sides};
 
 use crate::fold::SUM;
-use crate::joints::STATES;
 use crate::marked::{greater, nothing};
 use crate::side::Side;
-use ts_row::RowView;
 use ts_sweep::packed::{Ends, Packed, PackedHull};
 
 /// The greatest end of C and of R, and the greatest of each end of D.
@@ -38,28 +36,10 @@ impl Peaks {
         }
     }
 
-    /// The peaks of the hulls at `count` places from `from` on, if they are needed, else those of no hull.
-    pub(crate) fn of<const O: u8, const N: usize>(
-        needed: bool,
-        hulls: &[PackedHull<N>],
-        from: usize,
-        count: usize,
-    ) -> Peaks
-        requires registers { 6 ≤ lane_count N }
-        requires hulls { ArePlaces N (from + count) hulls.now }
-        ensures { needed ≡ true → AreAllUnder N result hulls.now from count }
-    {
-        if needed {
-            Peaks::over::<O, N>(hulls, from, count)
-        } else {
-            Peaks::none()
-        }
-    }
-
     /// The peaks of the hulls at `count` places from `from` on. `O` is the number of the operator that joins results:
     /// the ends of R are watched where it adds.
     #[inline(never)]
-    fn over<const O: u8, const N: usize>(
+    pub(crate) fn over<const O: u8, const N: usize>(
         hulls: &[PackedHull<N>],
         from: usize,
         count: usize,
@@ -144,26 +124,4 @@ fn both(top: i64) -> Ends
         below: top,
         above: top,
     }
-}
-
-/// The peaks of each column of a row at `count` places from `from` on, if they are needed, else those of no hull.
-pub(crate) fn peaks_of<const O: u8, const N: usize>(
-    needed: bool,
-    states: u8,
-    row: &RowView<'_, N>,
-    from: usize,
-    count: usize,
-) -> [Peaks; STATES]
-    requires registers { 6 ≤ lane_count N }
-    requires lanes { N ≤ 64 }
-    requires few { states ≤ 8 }
-    requires row { HavePlaces N states (from + count) row.now }
-    ensures { (q : ℕ) → q < states → needed ≡ true →
-        AreAllUnder N (get_or result q no_peaks) (get_or row.now q []) from count }
-{
-    let mut all = [Peaks::none(); STATES];
-    for q in 0..states {
-        all[q as usize] = Peaks::of::<O, N>(needed, row.column(q), from, count);
-    }
-    all
 }

@@ -49,9 +49,9 @@ pub(crate) trait Seam<const N: usize>: Copy {
 #[derive(Clone, Copy)]
 pub(crate) struct Apart<const O: u8, const WIDE: bool>;
 
-/// No occurrence of narrow automata goes on, and all numbers that are added are small.
+/// No occurrence goes on, and all numbers that are added or taken away are small.
 #[derive(Clone, Copy)]
-pub(crate) struct PlainApart<const O: u8>;
+pub(crate) struct PlainApart<const O: u8, const WIDE: bool>;
 
 /// One occurrence of narrow automata goes on, and leaves a cell out at its end: the cell lies between both sides. All
 /// numbers that are added are small.
@@ -63,9 +63,9 @@ pub(crate) struct Between<const O: u8, const F: u8>;
 #[derive(Clone, Copy)]
 pub(crate) struct Both<const O: u8, const F: u8>;
 
-/// One occurrence of wide automata goes on.
+/// One occurrence of wide automata goes on, and all numbers that are added or taken away are small.
 #[derive(Clone, Copy)]
-pub(crate) struct Spread<const O: u8, const F: u8>;
+pub(crate) struct Through<const O: u8, const F: u8>;
 
 /// Any way to glue, looked up again for each value.
 #[derive(Clone, Copy)]
@@ -90,12 +90,12 @@ impl<const O: u8, const WIDE: bool, const N: usize> Seam<N> for Apart<O, WIDE> {
     }
 }
 
-impl<const O: u8, const N: usize> Seam<N> for PlainApart<O> {
+impl<const O: u8, const WIDE: bool, const N: usize> Seam<N> for PlainApart<O, WIDE> {
     ghost use Rattle.std.specs.Prelude.{◌≡◌, false};
     ghost use Rattle.ts_meet.specs.Joints.{IsPlain, numbered};
     ghost use Rattle.ts_meet.specs.SideLaws.{plain_with_worth};
 
-    ghost fits = { λ g. (g.joins ≡ false) × (g.result ≡ numbered O) × (g.wide ≡ false) };
+    ghost fits = { λ g. (g.joins ≡ false) × (g.result ≡ numbered O) × (g.wide ≡ WIDE) };
 
     ghost takes = { λ g a b. IsPlain g a b };
 
@@ -105,7 +105,7 @@ impl<const O: u8, const N: usize> Seam<N> for PlainApart<O> {
 
     #[inline(always)]
     fn glued(self, gluing: Gluing, left: &PackedHull<N>, right: &PackedHull<N>) -> Ends {
-        let known = gluing.known(numbered(O), gluing.fold, false);
+        let known = gluing.known(numbered(O), gluing.fold, WIDE);
         known.glued_plainly(left, right)
     }
 }
@@ -152,22 +152,23 @@ impl<const O: u8, const F: u8, const N: usize> Seam<N> for Both<O, F> {
     }
 }
 
-impl<const O: u8, const F: u8, const N: usize> Seam<N> for Spread<O, F> {
+impl<const O: u8, const F: u8, const N: usize> Seam<N> for Through<O, F> {
     ghost use Rattle.std.specs.Prelude.{◌≡◌, true};
-    ghost use Rattle.ts_meet.specs.Joints.{numbered};
+    ghost use Rattle.ts_meet.specs.Joints.{IsPlain, numbered};
+    ghost use Rattle.ts_meet.specs.SideLaws.{plain_with_worth};
 
     ghost fits = { λ g. (g.joins ≡ true) × (g.result ≡ numbered O) × (g.fold ≡ numbered F) × (g.wide ≡ true) };
 
-    ghost takes = { λ g a b. Unit {0} };
+    ghost takes = { λ g a b. IsPlain g a b };
 
     ghost any_worth = { λ g d h. h };
 
-    ghost takes_any = { λ g d a b h. h };
+    ghost takes_any = { λ g d a b h. plain_with_worth g d a b h };
 
     #[inline(always)]
     fn glued(self, gluing: Gluing, left: &PackedHull<N>, right: &PackedHull<N>) -> Ends {
         let known = gluing.known(numbered(O), numbered(F), true);
-        known.glued_joined(left, right)
+        known.glued_through(left, right)
     }
 }
 

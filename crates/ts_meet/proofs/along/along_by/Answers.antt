@@ -1,6 +1,6 @@
 use Rattle.std.proofs.Common.{◌≡◌, ◌+◌, ◌<◌, ℕ, [], get_or, length, sym, ap, subst, ◌∙◌, arith, rules}
 use Rattle.ts_meet.specs.Along.{between_along, hull_over, with_along}
-use Rattle.ts_meet.specs.Peaks.{AreWatched, no_peaks}
+use Rattle.ts_meet.specs.Peaks.{AreWatched, unwatched}
 use Rattle.ts_meet.specs.Settled.{ArePlaces}
 use Rattle.ts_meet.specs.Sides.{StandFor}
 use Rattle.ts_meet.proofs.Places.{between_along_more, between_along_none}
@@ -17,9 +17,9 @@ with_columns-hull-requires g c =
     let below : c.loop-q.q < c.args.joints.now.left_states = omega (arith, c.loop-q-test.true, c.loop-q.auto.q-end) in
     let places = subst (ArePlaces g.row.N (c.args.from + length c.args.values.now)) (sym c.column.ensures) (c.requires.left.places c.loop-q.q below) in
     let given = c.requires in
-    let seconds : (r : ℕ) → r < c.args.joints.now.right_states → AreWatched g.row.N c.args.joints.now
-    (get_or c.peaks_of-seconds.result r no_peaks) (get_or c.args.right.now r []) c.args.from (length c.args.values.now) =
-    λ r l e. c.peaks_of-seconds.ensures r l (c.adds.ensures ∙ e) in
+    let seconds : (r : ℕ) → r < c.args.joints.now.right_states → AreWatched g.row.N
+    (get_or c.watched_in-seconds.result r unwatched) (get_or c.args.right.now r []) c.args.from (length c.args.values.now) =
+    λ r l. c.watched_in-seconds.ensures r l in
     (search rules, (search rules, (given.registers, (given.lanes, (given.alone, (given.operator, (below, (places, (given.right, (seconds, given.values))))))))))
 
 pub loop-q-preserved : goal.loop-q-preserved

@@ -1,11 +1,7 @@
 use Rattle.std.proofs.Common.{subst}
-use Rattle.ts_meet.specs.Joints.{IsPlain}
-use Rattle.ts_meet.specs.Peaks.{sides_of_peaks}
-use Rattle.ts_meet.proofs.Watched.{plain_within}
+use Rattle.ts_meet.specs.Peaks.{IsKnown}
 use Rattle.ts_meet.proofs.gluing.Gluing.is_plain_within.Goals as goal
 
 pub returns-then-self : goal.returns-then-self
-returns-then-self c a b is under =
-    let f = c.args.self in let k = c.args.left in let l = c.args.right in
-    plain_within f k l a b c.requires.narrow
-    (subst (λ z. IsPlain f z (sides_of_peaks l)) c.side.ensures (subst (IsPlain f _) c.side-then-self.ensures (c.is_joined_plain.ensures is))) under
+returns-then-self c a b is u v =
+    c.is_plain_small.ensures a b is (subst (λ w. IsKnown w a) c.in-Wide-Wide.is-0 u) (subst (λ w. IsKnown w b) c.in-Wide-Wide.is-1 v)

@@ -2,9 +2,9 @@ use Rattle.std.proofs.Common.{◌≡◌, ◌+◌, ◌<◌, sym, subst, arith, ru
 use Rattle.ts_row.specs.Rows.{lanes_of}
 use Rattle.ts_sweep.specs.Packed.{IsPacked}
 use Rattle.ts_sweep.specs.Sides.{lane_count}
-use Rattle.ts_meet.specs.Peaks.{AreAllUnder}
+use Rattle.ts_meet.specs.Peaks.{AreAllUnder, IsUnder}
 use Rattle.ts_meet.proofs.Asking.{read_there}
-use Rattle.ts_meet.proofs.Watched.{all_under_more}
+use Rattle.ts_meet.proofs.Watched.{all_so_more}
 use Rattle.ts_meet.proofs.peaks.Peaks.over.Goals as goal
 
 pub loop-i-init : goal.loop-i-init
@@ -22,7 +22,7 @@ pub loop-i-preserved : goal.loop-i-preserved
 loop-i-preserved g c =
     let n = g.row.N in let i = c.loop-i.i in let at = c.args.from + i in let given = c.requires in let before = c.loop-i-test.true in
     let place : at < c.args.from + c.args.count = omega (arith, before) in
-    all_under_more n c.loop-i.all c.with_hull-all.result c.args.hulls.now c.args.from i c.index-hulls-from.result c.with_hull-all.ensures.kept
+    all_so_more n (IsUnder c.loop-i.all) (IsUnder c.with_hull-all.result) c.args.hulls.now c.args.from i c.index-hulls-from.result c.with_hull-all.ensures.kept
     c.with_hull-all.ensures.added (read_there n c.args.hulls.now at _ c.index-hulls-from.is (let e = given.hulls.0 in omega (arith, e, place)))
     c.loop-i.invariant
 

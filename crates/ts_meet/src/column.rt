@@ -1,0 +1,67 @@
+//! What is known of the ends of the registers in a column, found once for all values: peaks of narrow registers, or
+//! that wide ones are small.
+
+ghost use Rattle.std.specs.Prelude.{◌<◌, ◌+◌, ◌≤◌, ℕ, [], get_or};
+ghost use Rattle.ts_meet.specs.Peaks.{AreWatched, unwatched};
+ghost use Rattle.ts_meet.specs.Settled.{ArePlaces, HavePlaces};
+ghost use Rattle.ts_sweep.specs.Sides.{lane_count};
+
+use crate::joints::{Joints, STATES};
+use crate::peaks::Peaks;
+use crate::small::Small;
+use ts_row::RowView;
+use ts_sweep::packed::PackedHull;
+
+/// What is known of the ends in a column.
+#[derive(Clone, Copy)]
+pub(crate) enum Watched {
+    Nothing,
+    Narrow(Peaks),
+    Wide(Small),
+}
+
+impl Watched {
+    /// What is known of the hulls at `count` places from `from` on: of narrow ones nothing, unless it is needed.
+    pub(crate) fn over<const O: u8, const N: usize>(
+        needed: bool,
+        wide: bool,
+        hulls: &[PackedHull<N>],
+        from: usize,
+        count: usize,
+    ) -> Watched
+        requires registers { 6 ≤ lane_count N }
+        requires hulls { ArePlaces N (from + count) hulls.now }
+        ensures { AreWatched N result hulls.now from count }
+    {
+        if wide {
+            Watched::Wide(Small::over::<O, N>(hulls, from, count))
+        } else if needed {
+            Watched::Narrow(Peaks::over::<O, N>(hulls, from, count))
+        } else {
+            Watched::Nothing
+        }
+    }
+}
+
+/// What is known of each column of a reverse row at `count` places from `from` on.
+pub(crate) fn watched_in<const O: u8, const N: usize>(
+    joints: &Joints,
+    states: u8,
+    row: &RowView<'_, N>,
+    from: usize,
+    count: usize,
+) -> [Watched; STATES]
+    requires registers { 6 ≤ lane_count N }
+    requires lanes { N ≤ 64 }
+    requires few { states ≤ 8 }
+    requires row { HavePlaces N states (from + count) row.now }
+    ensures { (q : ℕ) → q < states →
+        AreWatched N (get_or result q unwatched) (get_or row.now q []) from count }
+{
+    let mut all = [Watched::Nothing; STATES];
+    for q in 0..states {
+        let needed = joints.watches_right(q);
+        all[q as usize] = Watched::over::<O, N>(needed, joints.wide, row.column(q), from, count);
+    }
+    all
+}
