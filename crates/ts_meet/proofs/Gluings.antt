@@ -30,7 +30,7 @@ use Rattle.ts_sweep.specs.Packed.{AreSome, AreWithin, IsPackOf, IsSomeEnds, IsWi
 use Rattle.ts_meet.specs.declared.gluing.Gluing.{Gluing}
 use Rattle.ts_meet.specs.Joints.{IsFoldPlain, IsHeldPlain, IsOpenPlain, IsPlain, between_expression, both_expression, expression, folds_held, held_ends, is_add, joined_expression, leaves_out, open_ends, part_by}
 use Rattle.ts_meet.specs.SideLaws.{cell_within, far_infinity, near_small}
-use Rattle.ts_meet.specs.Sides.{AreSomeEnds, ArePackOf, TakesAny, TakesPlain, plain_by, plain_values}
+use Rattle.ts_meet.specs.Sides.{AreSomeEnds, ArePackOf, IsNear, TakesAny, TakesNear, TakesPlain, is_far, plain_by, plain_values}
 
 -- registers alone stand in it
 abbrev OfRegisters : Formula → Type 0
@@ -579,6 +579,59 @@ module _ (a b : EachOf Ends) where
     pub plain_joined : (g : Gluing) → IsCellValue g.worth → IsPlain g a b → g.joins ≡ true →
         GlueTakes TakesPlain plain_values a b (joined_expression g)
     plain_joined g h plain e = subst (by_joins g) e (plain_takes g h plain)
+
+    -- nothing is taken away from an infinity where the greatest and the least of cells are small
+
+    near_word : (f : Formula) (s : EachOf Ends) → IsWord f → Takes TakesNear plain_values s (pos 0) (pos 0) f
+    near_word (Leaf w) s h = tt
+    near_word (Join o f g) s h = absurd h
+
+    near_never : (o : Operator) (e : Ends) → adds o ≡ false → IsNear o e
+    near_never (Fold o) e h = tt
+    near_never Sub e h = never_added h
+
+    near_free : (u : Glue) → AddsNever u → GlueTakes TakesPlain plain_values a b u → GlueTakes TakesNear plain_values a b u
+    near_free (Left f) n h = near_word f a n
+    near_free (Right f) n h = near_word f b n
+    near_free (Number x) n h = tt
+    near_free (With o u v) n h = (near_free u n.1 h.0, near_free v n.2 h.1, (h.2, near_never o _ n.0))
+
+    near_wide : (g : Gluing) → IsCellValue g.worth → IsPlain g a b → g.joins ≡ true → g.wide ≡ true →
+        GlueTakes TakesNear plain_values a b (join_of g.result (fold_of true g.fold (part_by g)))
+    near_wide g h plain j w =
+        let s = plain.spread w j in let t = joined_wide g h plain j w in
+        let u = extreme_within Whole g.fold g h s.0 s.1 in let v = extreme_within Away Min g h refl s.2 in
+        let whole = folded g.fold Whole g.worth g.trims g.held_left g.held_right in
+        let away = folded Min Away g.worth g.trims g.held_left g.held_right in (
+          (tt, tt, (t.0.2, tt)),
+          (
+            near_free whole (fold_free Whole g.fold g.worth g.trims g.held_left g.held_right s.0) u.1,
+            near_free away (fold_free Away Min g.worth g.trims g.held_left g.held_right refl) v.1,
+            (t.1.2, near_small _ (are_within 1 _ (omega arith) u.0)),
+          ),
+          (t.2, tt),
+        )
+
+    pub near_joined : (g : Gluing) → IsCellValue g.worth → IsPlain g a b → g.joins ≡ true → g.wide ≡ true →
+        GlueTakes TakesNear plain_values a b (joined_expression g)
+    near_joined g h plain j w =
+        subst (λ z. GlueTakes TakesNear plain_values a b (join_of g.result (fold_of z g.fold (part_by g)))) (sym w) (near_wide g h plain j w)
+
+    held_near : (v : Bool) (s : EachOf Ends) → AreSomeEnds s → IsHeldPlain v s → v ≡ true → is_far s.c ≡ false
+    held_near v s some (e, inl c) t = near_small s.c (are_within 1 s.c (omega arith) (small s.c some.0 c))
+    held_near v s some (e, inr free) t = never_added (sym t ∙ free.0)
+
+    near_apart_wide : (g : Gluing) → IsPlain g a b → g.joins ≡ false → g.wide ≡ true → is_add g.result ≡ true →
+        GlueTakes TakesNear plain_values a b (apart true g.result)
+    near_apart_wide g plain j w e =
+        let h = plain.held w j in let t = apart_wide g plain j w true e in
+        let fa = held_near (is_add g.result) a some_a h.0 e in let fb = held_near (is_add g.result) b some_b h.1 e in
+        ((tt, (tt, tt, (t.0.1.2, fa)), (t.0.2, tt)), (tt, (tt, tt, (t.1.1.2, fb)), (t.1.2, tt)), (t.2, tt))
+
+    pub near_apart : (g : Gluing) → IsPlain g a b → g.joins ≡ false → g.wide ≡ true → is_add g.result ≡ true →
+        GlueTakes TakesNear plain_values a b (apart g.wide g.result)
+    near_apart g plain j w e =
+        subst (λ z. GlueTakes TakesNear plain_values a b (apart z g.result)) (sym w) (near_apart_wide g plain j w e)
 
 pub trims_is : (a : ℕ) → nat_lt 0 a ≡ leaves_out a
 trims_is zero = refl

@@ -86,6 +86,14 @@ TakesPlain (Fold Max) a b = Unit {0}
 TakesPlain (Fold Min) a b = Unit {0}
 TakesPlain Sub a b = (is_far a ≡ false → AreWithin 5 a) × (is_far a ≡ true → IsInfinity a) × AreWithin 5 b
 
+-- nothing is taken away from an infinity
+abbrev pub IsNear : Operator → Ends → Type 0
+IsNear (Fold o) a = Unit {0}
+IsNear Sub a = is_far a ≡ false
+
+abbrev pub TakesNear : Operator → Ends → Ends → Type 0
+TakesNear o a b = TakesPlain o a b × IsNear o a
+
 abbrev pub TakesAny : Operator → Ends → Ends → Type 0
 TakesAny o a b = Unit {0}
 

@@ -317,11 +317,15 @@ fn along_spread<const O: u8, const N: usize>(
         (pair_along N p q r left.now right.now from values.now cells (length values.now)) }
 {
     let gluing = joints.joined(numbered(O), joints.fold, q, r);
-    if is_greatest(joints.fold) && gluing.is_plain_within(first, second) {
-        let seam = Through::<O, GREATEST>;
+    if !is_greatest(joints.fold) || !gluing.is_plain_within(first, second) {
+        return along_glued(Any, joints, gluing, left, right, values, from, cells);
+    }
+    if joints.trims {
+        let seam = Through::<O, GREATEST, true>;
         along_glued(seam, joints, gluing, left, right, values, from, cells)
     } else {
-        along_glued(Any, joints, gluing, left, right, values, from, cells)
+        let seam = Through::<O, GREATEST, false>;
+        along_glued(seam, joints, gluing, left, right, values, from, cells)
     }
 }
 

@@ -33,7 +33,7 @@ use crate::column::Watched;
 use crate::peaks::Peaks;
 use crate::side::{Side, are_plain, is_open_plain, shown};
 use crate::small::Small;
-use crate::sums::{Clamped, Plain, Sums, is_infinity};
+use crate::sums::{Clamped, Near, Plain, Sums, is_infinity};
 use ts_automaton::{Op, Operator};
 use ts_glue::Part;
 use ts_sweep::packed::{Ends, PackedHull};
@@ -86,6 +86,24 @@ impl Gluing {
             wide,
             joins: self.joins,
             trims: self.trims,
+            held_left: self.held_left,
+            held_right: self.held_right,
+        }
+    }
+
+    /// This gluing, where whether an occurrence leaves a cell out at its end is told by what is equal to that.
+    #[inline(always)]
+    pub(crate) fn known_trims(self, trims: bool) -> Gluing
+        requires { trims ≡ self.trims }
+        ensures { result ≡ self }
+    {
+        Gluing {
+            result: self.result,
+            fold: self.fold,
+            worth: self.worth,
+            wide: self.wide,
+            joins: self.joins,
+            trims,
             held_left: self.held_left,
             held_right: self.held_right,
         }
@@ -201,7 +219,20 @@ impl Gluing {
             (pointed_spans (sides N) (spans_of (unpacked (lanes_of N left.now))))
             (pointed_spans (sides N) (spans_of (unpacked (lanes_of N right.now)))) (apart self.wide self.result)) }
     {
-        self.answers::<Plain>(Side::of(left), Side::of(right))
+        let (first, second) = (Side::of(left), Side::of(right));
+        if self.is_spread_sum() {
+            self.answers::<Near>(first, second)
+        } else {
+            self.answers::<Plain>(first, second)
+        }
+    }
+
+    /// Whether what wide automata have held is added.
+    #[inline(always)]
+    fn is_spread_sum(self) -> bool
+        ensures { result ≡ true → (self.wide ≡ true) × (is_add self.result ≡ true) }
+    {
+        self.wide && is_add(self.result)
     }
 
     /// The glued ends of two hulls before the mark, where one occurrence goes on that leaves a cell out at its end.
@@ -252,8 +283,8 @@ impl Gluing {
         shown::<N>(self.joined_both(left, right))
     }
 
-    /// The glued ends of two hulls before the mark, where one occurrence goes on and all numbers that are added or
-    /// taken away are small.
+    /// The glued ends of two hulls before the mark, where one occurrence of wide automata goes on and all numbers that
+    /// are added or taken away are small.
     #[inline(always)]
     pub(crate) fn glued_through<const N: usize>(
         self,
@@ -265,6 +296,7 @@ impl Gluing {
         requires left { AreSome (lane_count N) (lanes_of N left.now) }
         requires right { AreSome (lane_count N) (lanes_of N right.now) }
         requires worth { IsCellValue self.worth }
+        requires wide { self.wide ≡ true }
         requires joined { self.joins ≡ true }
         requires plain { IsPlain self
             (side_of (sides N) (lanes_of N left.now)) (side_of (sides N) (lanes_of N right.now)) }
@@ -275,13 +307,15 @@ impl Gluing {
         shown::<N>(self.joined_plainly(left, right))
     }
 
-    /// The glued ends of two hulls before the mark, where one occurrence goes on, with the sums of the lanes.
+    /// The glued ends of two hulls before the mark, where one occurrence of wide automata goes on, with the sums of the
+    /// lanes.
     #[inline(always)]
     fn joined_plainly<const N: usize>(self, left: &PackedHull<N>, right: &PackedHull<N>) -> Ends
         requires registers { 6 ≤ lane_count N }
         requires left { AreSome (lane_count N) (lanes_of N left.now) }
         requires right { AreSome (lane_count N) (lanes_of N right.now) }
         requires worth { IsCellValue self.worth }
+        requires wide { self.wide ≡ true }
         requires joined { self.joins ≡ true }
         requires plain { IsPlain self
             (side_of (sides N) (lanes_of N left.now)) (side_of (sides N) (lanes_of N right.now)) }
@@ -289,7 +323,7 @@ impl Gluing {
             (pointed_spans (sides N) (spans_of (unpacked (lanes_of N left.now))))
             (pointed_spans (sides N) (spans_of (unpacked (lanes_of N right.now)))) (joined_expression self)) }
     {
-        self.joined_by::<Plain>(Side::of(left), Side::of(right))
+        self.joined_by::<Near>(Side::of(left), Side::of(right))
     }
 
     /// The glued ends of two hulls before the mark, where the cell lies between both sides of an occurrence and

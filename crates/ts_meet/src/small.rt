@@ -28,8 +28,20 @@ pub(crate) struct Small {
 }
 
 impl Small {
+    /// That nothing is known.
+    #[inline(always)]
+    fn none() -> Small
+        ensures { (a : EachOf Ends) → IsSmall result a }
+    {
+        Small {
+            cells: false,
+            held: false,
+            results: false,
+        }
+    }
+
     /// What is known of the registers of the hulls at `count` places from `from` on. `O` is the number of the operator
-    /// that joins results: R is looked at where it adds.
+    /// that joins results: where it adds, R and C are to be small.
     #[inline(never)]
     pub(crate) fn over<const O: u8, const N: usize>(
         hulls: &[PackedHull<N>],
@@ -47,6 +59,9 @@ impl Small {
         };
         for i in 0..count {
             all = all.with_hull::<O, N>(&hulls[from + i]);
+            if !all.cells {
+                return Small::none();
+            }
         }
         all
     }
@@ -75,7 +90,7 @@ impl Small {
         let held = are_plain(side.c);
         Small {
             cells: self.cells
-                && (held || is_infinity(side.c))
+                && (held || O != SUM && is_infinity(side.c))
                 && are_rest_small(side)
                 && are_results_small::<O>(side),
             held: self.held && held,

@@ -3,7 +3,7 @@
 ghost use Rattle.std.specs.Prelude.{◌≡◌, negsuc, pos, true};
 ghost use Rattle.ts_automaton.specs.declared.expr.Operator.TheVariants.{Sub};
 ghost use Rattle.ts_base.specs.Limits.{IsCellValue};
-ghost use Rattle.ts_meet.specs.Sides.{IsInfinity, TakesPlain, is_far, plain_by};
+ghost use Rattle.ts_meet.specs.Sides.{IsInfinity, TakesNear, TakesPlain, is_far, plain_by};
 ghost use Rattle.ts_sweep.specs.Operators.{crossed};
 ghost use Rattle.ts_sweep.specs.Packed.{number_ends};
 
@@ -49,6 +49,10 @@ pub(crate) trait Sums: Copy {
 #[derive(Clone, Copy)]
 pub(crate) struct Plain;
 
+/// Sums of small numbers, where nothing is taken away from an infinity.
+#[derive(Clone, Copy)]
+pub(crate) struct Near;
+
 /// Sums of any numbers, which are clamped and know infinities.
 #[derive(Clone, Copy)]
 pub(crate) struct Clamped;
@@ -88,6 +92,15 @@ fn less(first: Ends, second: Ends) -> Ends
     } else {
         Minus.of(first, second)
     }
+}
+
+/// The first less the second, both small numbers.
+#[inline(always)]
+fn less_near(first: Ends, second: Ends) -> Ends
+    requires { TakesNear Sub first second }
+    ensures { result ≡ plain_by Sub first second }
+{
+    Minus.of(first, second)
 }
 
 /// Whether an end is infinite outwards.
@@ -141,6 +154,34 @@ impl Sums for Plain {
             Operator::Fold(Op::Max) => Greater.of(first, second),
             Operator::Fold(Op::Min) => Lesser.of(first, second),
             Operator::Sub => less(first, second),
+        }
+    }
+
+    #[inline(always)]
+    fn number(x: i64) -> Ends {
+        number(x)
+    }
+}
+
+impl Sums for Near {
+    ghost use Rattle.ts_meet.specs.Sides.{TakesNear, plain_values};
+    ghost use Rattle.ts_meet.specs.SideLaws.{cell_packs, plain_packs};
+
+    ghost values = { plain_values };
+
+    ghost takes = { TakesNear };
+
+    ghost number_packs = { λ x h. cell_packs x h };
+
+    ghost packs = { λ o a b s t h p q. plain_packs o a b s t h.0 p q };
+
+    #[inline(always)]
+    fn joined(operator: Operator, first: Ends, second: Ends) -> Ends {
+        match operator {
+            Operator::Fold(Op::Add) => Plus.of(first, second),
+            Operator::Fold(Op::Max) => Greater.of(first, second),
+            Operator::Fold(Op::Min) => Lesser.of(first, second),
+            Operator::Sub => less_near(first, second),
         }
     }
 

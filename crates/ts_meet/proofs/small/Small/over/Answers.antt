@@ -1,7 +1,8 @@
-use Rattle.std.proofs.Common.{◌≡◌, ◌+◌, ◌<◌, sym, subst, arith, rules}
-use Rattle.ts_row.specs.Rows.{lanes_of}
+use Rattle.std.proofs.Common.{◌≡◌, ◌+◌, ◌<◌, get_or, sym, subst, arith, rules}
+use Rattle.ts_row.specs.Rows.{lanes_of, nothing}
 use Rattle.ts_sweep.specs.Packed.{IsPacked}
-use Rattle.ts_sweep.specs.Sides.{lane_count}
+use Rattle.ts_sweep.specs.Sides.{lane_count, sides}
+use Rattle.ts_meet.specs.Sides.{side_of}
 use Rattle.ts_meet.specs.Peaks.{AreAllSmall, IsSmall}
 use Rattle.ts_meet.proofs.Asking.{read_there}
 use Rattle.ts_meet.proofs.Watched.{all_so_more}
@@ -30,3 +31,7 @@ pub returns : goal.returns
 returns g c =
     let e : c.loop-i.i ≡ c.args.count = omega (arith, c.loop-i-test.false, c.loop-i.auto.i-end) in
     subst (AreAllSmall g.row.N c.loop-i.all c.args.hulls.now c.args.from) e c.loop-i.invariant
+
+pub returns-then-not-all : goal.returns-then-not-all
+returns-then-not-all g c i before here =
+    let n = g.row.N in c.none.ensures (side_of (sides n) (lanes_of n (get_or c.args.hulls.now (c.args.from + i) (nothing n))))
