@@ -1,7 +1,7 @@
 //! What no number of a span does.
 
 ghost use Rattle.std.specs.Prelude.{◌≡◌, ◌↔◌, IsTrue};
-ghost use Rattle.ts_filter.specs.Ends.{best_end, cuts, ends_refute, refutes};
+ghost use Rattle.ts_filter.specs.Ends.{best_end, ends_refute};
 ghost use Rattle.ts_model.specs.FirstBest.{is_better};
 ghost use Rattle.ts_filter.specs.Excluded.{Cuts, Refutes, counts};
 
@@ -12,16 +12,14 @@ use ts_model::Op;
 /// Whether no number of the span compares so with the bound. A span that is none refutes every comparison, and `!=` is
 /// refuted by the span of the bound alone.
 pub fn refutes(op: Op, bound: Ext, span: Span) -> bool
-    ensures ends { result ≡ refutes op bound span }
-    ensures exact { IsTrue result ↔ Refutes op bound span }
+    ensures { IsTrue result ↔ Refutes op bound span }
 {
     span.is_none() || ends_refute(op, bound, span.lo, span.hi)
 }
 
 /// Whether no number of the span counts for the bar. A span that is none cuts at every bar.
 pub fn cuts(goal: Goal, bar: Bar, span: Span) -> bool
-    ensures ends { result ≡ cuts goal bar span }
-    ensures exact { IsTrue result ↔ Cuts goal bar span }
+    ensures { IsTrue result ↔ Cuts goal bar span }
 {
     span.is_none() || !counts(goal, bar, best_end(goal, span))
 }
