@@ -8,6 +8,7 @@ use Rattle.ts_bound.specs.HullTables.{row_of}
 use Rattle.ts_bound.specs.PackedRows.{seen_row}
 use Rattle.ts_automaton.specs.declared.state.Mark.{Mark}
 use Rattle.ts_automaton.specs.Body.{Body}
+use Rattle.ts_bound.specs.Laws.{AreAutomata}
 use Rattle.ts_bound.specs.Looks.{count_looked, first_looked, last_looked, place_in}
 use Rattle.ts_bound.specs.TermSpans.{Automata}
 use Rattle.ts_bound.proofs.Looking.{ends_inside}
@@ -111,15 +112,17 @@ module _ (b : Box) (t : KnownRows) (k : ℕ) (h : HasHulls t.machine k b) where
     same_forms row None form forms = tt
     same_forms row (Some side) form forms = forms ∙ sym form
 
-    pub hulls_are : (p : Planned) (row : AnyRow) (back : Option BackSide) → p.form ≡ t.form → IsPlanned t.machine.forward p → HasStates p row →
+    pub hulls_are : (p : Planned) (row : AnyRow) (back : Option BackSide) → AreAutomata t.machine → p.form ≡ t.form →
+        IsPlanned t.machine.forward p → HasStates p row →
         hulls_in p.states row ≡ get_or t.ahead (k - first_looked t.machine.window) [] →
         MatchOption back (k ≡ last_looked t.machine.window (length b)) (IsBackSide t.machine k b) →
         IfSome back (λ side. form_of (viewed side.row) ≡ t.form) → AreHulls t.machine b k row back
-    hulls_are p row back form planned states is behind forms =
+    hulls_are p row back whole form planned states is behind forms =
         let at = place_is t.machine k b h in let first = (ends_inside t.machine.window (length b) h.looks).0 in let from = h.from in
         let same : k - first_looked t.machine.window ≡ place_in t.machine.window k - 1 = omega (arith, at, first, from) in
         let f = t.machine.forward in
         record {
+          whole = whole;
           form = same_forms row back (states.form ∙ form) forms;
           there = h;
           ahead = packed_row f p (seen_before t.machine k b) (values_at k b) row planned states

@@ -3,6 +3,7 @@ use Rattle.std.specs.Prelude.{◌≡◌, ◌≤◌, ◌-◌, ℕ, ℤ, List, len
 use Rattle.ts_base.specs.declared.span.Span.{Span}
 use Rattle.ts_base.specs.Windows.{looked_at}
 use Rattle.ts_bound.specs.HullTables.{cells_before, cells_after}
+use Rattle.ts_bound.specs.Laws.{AreAutomata}
 use Rattle.ts_bound.specs.Looks.{count_looked, first_looked, last_looked, place_in}
 use Rattle.ts_bound.specs.TermSpans.{Automata, LooksIn, span_of_all, value_span}
 use Rattle.ts_glue.specs.Pairs.{Pair}
@@ -65,8 +66,10 @@ IsSide (Some p) behind values side = AreJoints p side.joints.now × IsRowOf p.re
 abbrev pub IsBackSide : Automata → ℕ → Box → BackSide → Type 0
 IsBackSide a k b side = IsSide a.pair (seen_after a k b) (values_at k b) side
 
--- the rows are those of the cell; the last cell that is looked at needs none of the reverse automaton
+-- the automata keep their rules, and the rows are those of the cell; the last cell that is looked at needs none of the
+-- reverse automaton
 pub record AreHulls (a : Automata) (b : Box) (k : ℕ) (row : AnyRow) (back : Option BackSide) : Type 0 where
+  pub whole : AreAutomata a
   pub form : HasForm back row
   pub there : HasHulls a k b
   pub ahead : IsAheadRow a k b row

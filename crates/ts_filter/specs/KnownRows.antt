@@ -3,6 +3,7 @@
 use Rattle.std.specs.Prelude.{◌≡◌, ◌<◌, ◌≤◌, ℕ, ◌-◌, List, Contains, length, Option, None, Some}
 use Rattle.ts_base.specs.Windows.{looked_at}
 use Rattle.ts_bound.specs.Looks.{place_in}
+use Rattle.ts_bound.specs.Laws.{AreAutomata}
 use Rattle.ts_bound.specs.TermSpans.{Automata, LooksIn}
 use Rattle.ts_glue.specs.Pairs.{Pair}
 use Rattle.ts_meet.specs.declared.joints.Joints.{Joints}
@@ -44,8 +45,9 @@ HasJoints None joints = Unit {0}
 HasJoints (Some p) None = ⊥
 HasJoints (Some p) (Some joints) = AreJoints p joints
 
--- the rows of a machine are made by the plans of its automata, in one form, and meet as these are glued
+-- the automata of a machine keep their rules; its rows are made by their plans, in one form, and meet as they are glued
 pub record AreTables (a : Automata) (ahead behind : Planned) (joints : Option Joints) : Type 0 where
+  pub whole : AreAutomata a
   pub forward : IsPlanned a.forward ahead
   pub reverse : IsPlannedBack a.pair behind
   pub form : behind.form ≡ ahead.form

@@ -28,6 +28,7 @@ use std::alloc::Global;
 use std::marker::Model;
 use std::mem;
 use ts_base::Memory;
+use ts_bound::laws::machine_is_whole;
 use ts_bound::{
     Change, Direction, Form, Others, Reading, RowStack, ends, is_looked, looked_count, make_rows,
     read_at,
@@ -91,10 +92,13 @@ impl<'a> BoxTables<'a> {
         ensures machine { result.machine ≡ automata_of (machine_in machine.entry) }
         ensures known { (cells : Box) → AreRowsOf cells result }
     {
-        let form = whole_form(machine.get());
-        let ahead = RowStack::new(alloc, machine.get().forward(), form);
-        let behind = rows_behind(alloc, machine.get(), form);
-        let joints = joints_of(machine.get());
+        let m = machine.get();
+        // the tables keep the rules of the automata, so that no question has to ask for them
+        machine_is_whole(m);
+        let form = whole_form(m);
+        let ahead = RowStack::new(alloc, m.forward(), form);
+        let behind = rows_behind(alloc, m, form);
+        let joints = joints_of(m);
         BoxTables {
             machine,
             asked: false,

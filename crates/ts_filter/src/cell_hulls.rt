@@ -42,7 +42,6 @@ use crate::so_far::SoFar;
 use crate::term_requirements::TermRequirements;
 use std::marker::Model;
 use ts_base::{Ext, Goal, Span};
-use ts_bound::laws::machine_is_whole;
 use ts_bound::{AnyView, asked_between, looked_count, settled_between};
 use ts_domain::{Boxed, Domain};
 use ts_glue::Machine;
@@ -212,10 +211,7 @@ impl<'a> CellHulls<'a> {
                 from,
                 to,
             ),
-            None => {
-                machine_is_whole(self.machine);
-                last_places(self.machine, &self.row, self.cells, self.cell, from, to)
-            }
+            None => last_places(self.machine, &self.row, self.cells, self.cell, from, to),
         }
     }
 
@@ -346,10 +342,7 @@ impl<'a> CellHulls<'a> {
                 i,
                 v,
             ),
-            None => {
-                machine_is_whole(self.machine);
-                last_value(so_far, self.machine, &self.row, self.cells, self.cell, i, v)
-            }
+            None => last_value(so_far, self.machine, &self.row, self.cells, self.cell, i, v),
         }
     }
 }

@@ -1,4 +1,4 @@
-use Rattle.std.proofs.Common.{◌≡◌, ap, ◌∙◌, sym, subst, length, map, rules}
+use Rattle.std.proofs.Common.{◌≡◌, ◌∙◌, sym, subst, length, map, rules}
 use Rattle.ts_base.specs.Windows.{looked_at}
 use Rattle.ts_bound.specs.Blocks.{last_at, split_at}
 use Rattle.ts_bound.specs.Looks.{last_looked, place_in}
@@ -37,6 +37,6 @@ returns-in-None c asked serves =
     (span_of_all (map (value_span t.machine t.cell t.cells) (places_of c.args.from c.args.to (values_at t.cell t.cells))))) c.self.view_is
     (subst (λ l. FindsAlike asked c.last_places.result (span_of_all l))
     (map_same (last_at (forward_of m) place cells) (value_span (automata_of m) k b) (places_of c.args.from c.args.to (values_at k b))
-    (λ v. last_value_ends (automata_of m) c.machine_is_whole.ensures place cells v (place_last (automata_of m) k b there last)
+    (λ v. last_value_ends (automata_of m) c.self.invariant.whole place cells v (place_last (automata_of m) k b there last)
     ∙ sym (value_inside (automata_of m) k b there v)))
     (c.last_places.ensures asked (subst (λ (t : AtCell). Serves t asked) (sym c.self.view_is) serves)))

@@ -40,7 +40,7 @@ returns-in-None c =
     let place = place_in (window_of m) k in let cells = looked_at (window_of m) b in
     subst (λ (s : Span). WithParts c.args.so_far (s ∷ []) c.last_value.result)
     (ap (last_at (forward_of m) place cells) (to_z-of_z w64 c.args.v c.ranges.v)
-    ∙ last_value_ends (automata_of m) c.machine_is_whole.ensures place cells c.args.v (place_last (automata_of m) k b there last)
+    ∙ last_value_ends (automata_of m) c.self.invariant.whole place cells c.args.v (place_last (automata_of m) k b there last)
     ∙ sym (value_inside (automata_of m) k b there c.args.v)
     ∙ ap (λ (t : AtCell). value_span t.machine t.cell t.cells c.args.v) c.self.view_is)
     c.last_value.ensures
