@@ -1,57 +1,112 @@
--- The shape of a move that doesn't read the next cell.
-use Rattle.std.proofs.Common.{◌≡◌, Bool, true, false, Option, None, Some, sym, ap, subst, ◌∙◌}
-use Rattle.std.specs.Prelude.{IfSome}
+-- The shape of a move, by its expressions: those that a shape names are split as it says.
+use Rattle.std.proofs.Common.{◌≡◌, Bool, true, false, not, ◌&&◌, ◌||◌, refl, sym, ap, subst, ◌∙◌}
+use Rattle.std.proofs.lemmas.Bool.{and_parts}
 use Rattle.ts_automaton.specs.Body.{Move}
-use Rattle.ts_automaton.specs.Formula.{Formula, is_zero}
-use Rattle.ts_automaton.specs.Registers.{rests}
-use Rattle.ts_hull.specs.Cuts.{cut_of, is_front_move}
-use Rattle.ts_base.specs.declared.op.Op.{Op}
-use Rattle.ts_hull.specs.Splits.{FrontOf, TailOf}
+use Rattle.ts_automaton.specs.declared.expr.Atom.TheVariants.{C, E, F}
+use Rattle.ts_automaton.specs.Formula.{Formula, Leaf, is_zero}
+use Rattle.ts_automaton.specs.Registers.{each, rests}
+use Rattle.ts_automaton.proofs.Five.{five_true}
+use Rattle.ts_hull.specs.Cuts.{cut_of, whole_cut}
+use Rattle.ts_hull.specs.Splits.{FrontOf, is_front, split_formula}
 use Rattle.ts_hull.proofs.Wholes.{same_cut, whole_split}
+use Rattle.ts_row.specs.declared.plan.CellFold.{CellFold}
+use Rattle.ts_row.specs.declared.plan.CellFold.TheVariants.{Ones, Width, Surf, Greatest, Least}
+use Rattle.ts_row.specs.declared.plan.RangeFold.{RangeFold}
+use Rattle.ts_row.specs.declared.plan.RangeFold.TheVariants.{Sum, Highest, Lowest}
 use Rattle.ts_row.specs.declared.plan.Shape.{Shape}
 use Rattle.ts_row.specs.declared.plan.Shape.TheVariants.{Kept, Longer, Begun, Found, Inside, Ended, Anew, FoundTwice, EndedTwice, LongerNext, FoundNext, InsideNext, Other}
-use Rattle.ts_row.specs.Plans.{IsShapeOf, beside_held, beside_open, fronts, narrow_fronts, wide_result}
-use Rattle.ts_sweep.specs.Moves.{of_width}
+use Rattle.ts_row.specs.Plans.{IsShapeOf, cell_start, cell_word, least, less_of, made_by, once, range_start, result_by, twice}
+use Rattle.ts_row.proofs.NextShapes.{found_split, inside_split}
+use Rattle.ts_sweep.specs.Moves.{of_width, rest_split}
 use Rattle.ts_sweep.proofs.Widths.{width_cut}
 
--- of a wide automaton
-pub wide_split : (s : Shape) (m : Move) → is_front_move m ≡ true → IsShapeOf true s (fronts m.to.c m.to.e m.to.d m.to.f m.to.r) → IsShapeOf true s (cut_of m)
-wide_split s m front is = subst (IsShapeOf true s) (sym (whole_split m front)) is
+-- the next cell stands in no word of a fold
+word_front : (f : CellFold) → is_front (cell_word f) ≡ true
+word_front Ones = refl
+word_front Width = refl
+word_front Surf = refl
+word_front Greatest = refl
+word_front Least = refl
 
--- of a narrow one
-pub narrow_split : (s : Shape) (m : Move) → is_front_move m ≡ true → rests is_zero false m.to ≡ true → IsShapeOf false s (narrow_fronts m.to.c m.to.d m.to.r) →
-    IsShapeOf false s (cut_of m)
-narrow_split s m front zero is = subst (IsShapeOf false s) (sym (width_cut false m zero ∙ ap (of_width false) (whole_split m front))) is
+twice_front : (f : CellFold) → is_front (twice f) ≡ true
+twice_front Ones = refl
+twice_front Width = refl
+twice_front Surf = refl
+twice_front Greatest = refl
+twice_front Least = refl
 
--- the same of a shape that may be known
-pub known_wide : (o : Option Shape) (wide : Bool) (m : Move) → wide ≡ true → is_front_move m ≡ true →
-    IfSome o (λ s. IsShapeOf true s (fronts m.to.c m.to.e m.to.d m.to.f m.to.r)) → IfSome o (λ s. IsShapeOf wide s (cut_of m))
-known_wide None wide m e front is = tt
-known_wide (Some s) wide m e front is = subst (λ w. IsShapeOf w s (cut_of m)) (sym e) (wide_split s m front is)
+start_front : (f : CellFold) → is_front (cell_start f) ≡ true
+start_front Ones = refl
+start_front Width = refl
+start_front Surf = refl
+start_front Greatest = refl
+start_front Least = refl
 
-pub known_narrow : (o : Option Shape) (wide : Bool) (m : Move) → wide ≡ false → is_front_move m ≡ true → rests is_zero wide m.to ≡ true →
-    IfSome o (λ s. IsShapeOf false s (narrow_fronts m.to.c m.to.d m.to.r)) → IfSome o (λ s. IsShapeOf wide s (cut_of m))
-known_narrow None wide m e front zero is = tt
-known_narrow (Some s) wide m e front zero is =
-    subst (λ w. IsShapeOf w s (cut_of m)) (sym e) (narrow_split s m front (subst (λ w. rests is_zero w m.to ≡ true) e zero) is)
+start_split : (f : CellFold) → split_formula (cell_start f) ≡ FrontOf (cell_start f)
+start_split Ones = refl
+start_split Width = refl
+start_split Surf = refl
+start_split Greatest = refl
+start_split Least = refl
 
--- a front is no tail
-no_front : {A : Type 0} (e f : Formula) (o : Op) → FrontOf e ≡ TailOf o f → A
-no_front e f o h = cc
+range_front : (g : RangeFold) → is_front (range_start g) ≡ true
+range_front Sum = refl
+range_front Highest = refl
+range_front Lowest = refl
 
--- the shape of C and D, with what it says of E, F and R, is that of a wide automaton
-pub wide_is : (s : Shape) (c e d f r x : Formula) → IsShapeOf false s (narrow_fronts c d x) → e ≡ beside_held s → f ≡ beside_open s → r ≡ wide_result s →
-    IsShapeOf true s (fronts c e d f r)
-wide_is Kept c e d f r x h p q u = same_cut (ap (λ z. z.c) h) (ap FrontOf p) (ap (λ z. z.d) h) (ap FrontOf q) (ap FrontOf u)
-wide_is (Longer g) c e d f r x h p q u = same_cut (ap (λ z. z.c) h) (ap FrontOf p) (ap (λ z. z.d) h) (ap FrontOf q) (ap FrontOf u)
-wide_is (Begun g) c e d f r x h p q u = same_cut (ap (λ z. z.c) h) (ap FrontOf p) (ap (λ z. z.d) h) (ap FrontOf q) (ap FrontOf u)
-wide_is (Found g) c e d f r x h p q u = same_cut (ap (λ z. z.c) h) (ap FrontOf p) (ap (λ z. z.d) h) (ap FrontOf q) (ap FrontOf u)
-wide_is (Inside g) c e d f r x h p q u = same_cut (ap (λ z. z.c) h) (ap FrontOf p) (ap (λ z. z.d) h) (ap FrontOf q) (ap FrontOf u)
-wide_is (Ended g k) c e d f r x h p q u = same_cut (ap (λ z. z.c) h) (ap FrontOf p) (ap (λ z. z.d) h) (ap FrontOf q) (ap FrontOf u)
-wide_is (Anew g k) c e d f r x h p q u = same_cut (ap (λ z. z.c) h) (ap FrontOf p) (ap (λ z. z.d) h) (ap FrontOf q) (ap FrontOf u)
-wide_is (FoundTwice g) c e d f r x h p q u = same_cut (ap (λ z. z.c) h) (ap FrontOf p) (ap (λ z. z.d) h) (ap FrontOf q) (ap FrontOf u)
-wide_is (EndedTwice g k) c e d f r x h p q u = same_cut (ap (λ z. z.c) h) (ap FrontOf p) (ap (λ z. z.d) h) (ap FrontOf q) (ap FrontOf u)
-wide_is (LongerNext g) c e d f r x h p q u = no_front _ _ _ (ap (λ z. z.d) h)
-wide_is (FoundNext g) c e d f r x h p q u = no_front _ _ _ (ap (λ z. z.c) h)
-wide_is (InsideNext g) c e d f r x h p q u = no_front _ _ _ (ap (λ z. z.c) h)
-wide_is Other c e d f r x h p q u = tt
+less_front : (wide : Bool) (e f : Formula) → is_front e ≡ true → is_front f ≡ true → is_front (less_of wide e f) ≡ true
+less_front true e f h i = ap (λ z. z && is_front f) h ∙ i
+less_front false e f h i = h
+
+-- a move by the expressions that a shape names
+abbrev made_move : Bool → Shape → Move
+made_move wide s = record { next = 0; to = each (made_by s).0 (made_by s).1 (made_by s).2 (made_by s).3 (result_by wide s) }
+
+fronts_made : (wide : Bool) (s : Shape) → is_front (made_by s).0 ≡ true → is_front (made_by s).1 ≡ true → is_front (made_by s).2 ≡ true →
+    is_front (made_by s).3 ≡ true → is_front (result_by wide s) ≡ true →
+    of_width wide (cut_of (made_move wide s)) ≡ of_width wide (whole_cut (made_move wide s))
+fronts_made wide s c e d f r = ap (of_width wide) (whole_split (made_move wide s) (five_true _ _ _ _ _ c e d f r))
+
+shape_made : (wide : Bool) (s : Shape) → IsShapeOf wide s (of_width wide (cut_of (made_move wide s)))
+shape_made wide Kept = refl
+shape_made wide (Longer f) = fronts_made wide (Longer f) refl refl (word_front f) refl refl
+shape_made wide (Begun f) = fronts_made wide (Begun f) refl refl (start_front f) refl refl
+shape_made wide (Found f) = fronts_made wide (Found f) (word_front f) refl (start_front f) refl refl
+shape_made wide (Inside f) = fronts_made wide (Inside f) (word_front f) refl (start_front f) refl refl
+shape_made wide (Ended g f) =
+    fronts_made wide (Ended g f) refl refl (start_front f) refl (less_front wide (once f) (least (Leaf F)) (word_front f) refl)
+shape_made wide (Anew g f) = fronts_made wide (Anew g f) (range_front g) refl (start_front f) refl (less_front wide (Leaf C) (Leaf E) refl refl)
+shape_made wide (FoundTwice f) = fronts_made wide (FoundTwice f) (twice_front f) refl (start_front f) refl refl
+shape_made wide (EndedTwice g f) =
+    fronts_made wide (EndedTwice g f) refl refl (start_front f) refl (less_front wide (twice f) (least (least (Leaf F))) (twice_front f) refl)
+shape_made wide (LongerNext f) = refl
+shape_made wide (FoundNext f) = same_cut (found_split f) refl (start_split f) refl refl
+shape_made wide (InsideNext f) = same_cut (inside_split f) refl (start_split f) refl refl
+shape_made wide Other = tt
+
+-- E and F are read in a wide automaton alone
+rest_same : (wide : Bool) (e f : Formula) → (wide ≡ true → e ≡ f) → rest_split wide (split_formula e) ≡ rest_split wide (split_formula f)
+rest_same true e f h = ap split_formula (h refl)
+rest_same false e f h = refl
+
+shape_is : (wide : Bool) (s : Shape) (m : Move) → rests is_zero wide m.to ≡ true → m.to.c ≡ (made_by s).0 → (wide ≡ true → m.to.e ≡ (made_by s).1) →
+    m.to.d ≡ (made_by s).2 → (wide ≡ true → m.to.f ≡ (made_by s).3) → m.to.r ≡ result_by wide s → IsShapeOf wide s (cut_of m)
+shape_is wide s m zero c e d f r =
+    let same : of_width wide (cut_of m) ≡ of_width wide (cut_of (made_move wide s)) =
+    same_cut (ap split_formula c) (rest_same wide m.to.e (made_by s).1 e) (ap split_formula d) (rest_same wide m.to.f (made_by s).3 f) (ap split_formula r) in
+    subst (IsShapeOf wide s) (sym (width_cut wide m zero ∙ same)) (shape_made wide s)
+
+-- so has a move whose expressions pass tests of them
+where_wide : (wide e f : Bool) → (not wide || (e && f)) ≡ true → wide ≡ true → (e && f) ≡ true
+where_wide true e f h w = h
+where_wide false e f h w = cc
+
+pub tested_shape : (wide : Bool) (s : Shape) (m : Move) (c e d f r : Bool) → rests is_zero wide m.to ≡ true → (c ≡ true → m.to.c ≡ (made_by s).0) →
+    (e ≡ true → m.to.e ≡ (made_by s).1) → (d ≡ true → m.to.d ≡ (made_by s).2) → (f ≡ true → m.to.f ≡ (made_by s).3) →
+    (r ≡ true → m.to.r ≡ result_by wide s) → (c && d && r && (not wide || (e && f))) ≡ true → IsShapeOf wide s (cut_of m)
+tested_shape wide s m true e true f true zero c_is e_is d_is f_is r_is is =
+    shape_is wide s m zero (c_is refl) (λ w. e_is (and_parts e f (where_wide wide e f is w)).0) (d_is refl)
+    (λ w. f_is (and_parts e f (where_wide wide e f is w)).1) (r_is refl)
+tested_shape wide s m true e true f false zero c_is e_is d_is f_is r_is is = cc
+tested_shape wide s m true e false f r zero c_is e_is d_is f_is r_is is = cc
+tested_shape wide s m false e d f r zero c_is e_is d_is f_is r_is is = cc

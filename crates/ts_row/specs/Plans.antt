@@ -4,7 +4,7 @@ use Rattle.ts_base.specs.declared.letter.Letter.{Letter}
 use Rattle.ts_base.specs.declared.letter.Letter.TheVariants.{Less, Equal, Greater}
 use Rattle.ts_base.specs.declared.op.Op.{Op}
 use Rattle.ts_base.specs.declared.op.Op.TheVariants.{Add, Max, Min}
-use Rattle.ts_automaton.specs.declared.expr.Atom.TheVariants.{C, E, D, F, R, This, Zero, Unit as UnitAtom, NegInf as LowAtom, PosInf as HighAtom}
+use Rattle.ts_automaton.specs.declared.expr.Atom.TheVariants.{C, E, D, F, R, This, Next, Zero, Unit as UnitAtom, NegInf as LowAtom, PosInf as HighAtom}
 use Rattle.ts_automaton.specs.declared.expr.Expr.{Expr}
 use Rattle.ts_automaton.specs.declared.expr.Operator.{Operator}
 use Rattle.ts_automaton.specs.declared.expr.Operator.TheVariants.{Fold, Sub}
@@ -17,7 +17,7 @@ use Rattle.ts_hull.specs.Cuts.{Cut, cut_of}
 use Rattle.ts_sweep.specs.Here.{here_formula, here_move}
 use Rattle.ts_sweep.specs.Moves.{of_width}
 use Rattle.ts_row.specs.declared.words.Words.{Words}
-use Rattle.ts_row.specs.declared.words.Words.TheVariants.{Word, Two, Three}
+use Rattle.ts_row.specs.declared.words.Words.TheVariants.{Word, Two, Three, Again}
 use Rattle.ts_row.specs.declared.plan.CellFold.{CellFold}
 use Rattle.ts_row.specs.declared.plan.CellFold.TheVariants.{Ones, Width, Surf, Greatest, Least}
 use Rattle.ts_row.specs.declared.plan.RangeFold.{RangeFold}
@@ -37,6 +37,7 @@ abbrev pub words_formula : Words → Formula
 words_formula (Word a) = Leaf a
 words_formula (Two o a b) = Join (Fold o) (Leaf a) (Leaf b)
 words_formula (Three o a p b c) = Join (Fold o) (Leaf a) (Join (Fold p) (Leaf b) (Leaf c))
+words_formula (Again o a b c) = Join (Fold o) (Join (Fold o) (Leaf a) (Leaf b)) (Leaf c)
 
 -- of a fold of cells: the operator, what a cell is worth, and the word that it begins with
 abbrev pub cell_op : CellFold → Op
@@ -60,7 +61,10 @@ cell_start Surf = Leaf Zero
 cell_start Greatest = Leaf LowAtom
 cell_start Least = Leaf HighAtom
 
--- D, joined with the worth of two cells
+-- D, joined with the worth of a cell, and of two
+abbrev pub once : CellFold → Formula
+once f = Join (Fold (cell_op f)) (Leaf D) (cell_word f)
+
 abbrev pub twice_by : Operator → Formula → Formula
 twice_by o w = Join o (Join o (Leaf D) w) w
 
@@ -78,12 +82,9 @@ range_start Sum = Leaf Zero
 range_start Highest = Leaf LowAtom
 range_start Lowest = Leaf HighAtom
 
--- a move whose expressions don't read the next cell, and such a one of a narrow automaton
+-- a move whose expressions don't read the next cell
 abbrev pub fronts : Formula → Formula → Formula → Formula → Formula → Cut
 fronts c e d f r = each (FrontOf c) (FrontOf e) (FrontOf d) (FrontOf f) (FrontOf r)
-
-abbrev pub narrow_fronts : Formula → Formula → Formula → Cut
-narrow_fronts c d r = fronts c (Leaf Zero) d (Leaf Zero) r
 
 -- what a wide automaton takes away is folded by the lesser
 abbrev pub least : Formula → Formula
@@ -133,6 +134,10 @@ inside_tails p o d =
     each (TailOf o (Join p (Leaf C) (Leaf D))) (TailOf Min (Join (Fold Min) (Leaf E) (Leaf F))) (FrontOf d)
     (FrontOf (Leaf HighAtom)) (FrontOf (Leaf R))
 
+-- an expression, joined with the next cell
+abbrev pub next_to : Op → Formula → Formula
+next_to o e = Join (Fold o) e (Leaf Next)
+
 -- what is held: in a wide automaton C less E
 abbrev pub held_of : Bool → Formula
 held_of wide = if wide then Join Sub (Leaf C) (Leaf E) else Leaf C
@@ -171,67 +176,35 @@ IsShapeOf wide (FoundNext f) k =
 IsShapeOf wide (InsideNext f) k = k ≡ of_width wide (inside_tails (Fold (cell_op f)) (cell_op f) (cell_start f))
 IsShapeOf wide Other k = Unit {0}
 
--- what it says of E, F and R of a wide automaton
-abbrev pub beside_held : Shape → Formula
-beside_held Kept = Leaf E
-beside_held (Longer f) = Leaf E
-beside_held (Begun f) = Leaf E
-beside_held (Found f) = least (Leaf F)
-beside_held (Inside f) = Join (Fold Min) (Leaf E) (least (Leaf F))
-beside_held (Ended g f) = Leaf E
-beside_held (Anew g f) = Leaf Zero
-beside_held (FoundTwice f) = least (least (Leaf F))
-beside_held (EndedTwice g f) = Leaf E
-beside_held (LongerNext f) = Leaf Zero
-beside_held (FoundNext f) = Leaf Zero
-beside_held (InsideNext f) = Leaf Zero
-beside_held Other = Leaf Zero
+-- what it says of the expressions of C, E, D and F
+abbrev pub made_by : Shape → Formula × Formula × Formula × Formula
+made_by Kept = (Leaf C, Leaf E, Leaf D, Leaf F)
+made_by (Longer f) = (Leaf C, Leaf E, once f, least (Leaf F))
+made_by (Begun f) = (Leaf C, Leaf E, cell_start f, Leaf HighAtom)
+made_by (Found f) = (once f, least (Leaf F), cell_start f, Leaf HighAtom)
+made_by (Inside f) =
+    (Join (Fold (cell_op f)) (Leaf C) (once f), Join (Fold Min) (Leaf E) (least (Leaf F)), cell_start f, Leaf HighAtom)
+made_by (Ended g f) = (Leaf C, Leaf E, cell_start f, Leaf HighAtom)
+made_by (Anew g f) = (range_start g, Leaf Zero, cell_start f, Leaf HighAtom)
+made_by (FoundTwice f) = (twice f, least (least (Leaf F)), cell_start f, Leaf HighAtom)
+made_by (EndedTwice g f) = (Leaf C, Leaf E, cell_start f, Leaf HighAtom)
+made_by (LongerNext f) = (Leaf C, Leaf E, next_to (cell_op f) (Leaf D), next_to Min (Leaf F))
+made_by (FoundNext f) = (next_to (cell_op f) (once f), next_to Min (least (Leaf F)), cell_start f, Leaf HighAtom)
+made_by (InsideNext f) = (
+  Join (Fold (cell_op f)) (Leaf C) (next_to (cell_op f) (Leaf D)),
+  Join (Fold Min) (Leaf E) (next_to Min (Leaf F)),
+  cell_start f,
+  Leaf HighAtom,
+)
+made_by Other = (Leaf C, Leaf E, Leaf D, Leaf F)
 
-abbrev pub beside_open : Shape → Formula
-beside_open Kept = Leaf F
-beside_open (Longer f) = least (Leaf F)
-beside_open (Begun f) = Leaf HighAtom
-beside_open (Found f) = Leaf HighAtom
-beside_open (Inside f) = Leaf HighAtom
-beside_open (Ended g f) = Leaf HighAtom
-beside_open (Anew g f) = Leaf HighAtom
-beside_open (FoundTwice f) = Leaf HighAtom
-beside_open (EndedTwice g f) = Leaf HighAtom
-beside_open (LongerNext f) = Leaf Zero
-beside_open (FoundNext f) = Leaf Zero
-beside_open (InsideNext f) = Leaf Zero
-beside_open Other = Leaf Zero
-
--- what R takes in, in a wide automaton: what was found, or what is held
-abbrev pub taken_in : Shape → Formula
-taken_in Kept = held_of true
-taken_in (Longer f) = held_of true
-taken_in (Begun f) = held_of true
-taken_in (Found f) = held_of true
-taken_in (Inside f) = held_of true
-taken_in (Ended g f) = found_of true (Fold (cell_op f)) (cell_word f)
-taken_in (Anew g f) = held_of true
-taken_in (FoundTwice f) = held_of true
-taken_in (EndedTwice g f) = found_twice_of true (Fold (cell_op f)) (cell_word f)
-taken_in (LongerNext f) = held_of true
-taken_in (FoundNext f) = held_of true
-taken_in (InsideNext f) = held_of true
-taken_in Other = held_of true
-
-abbrev pub wide_result : Shape → Formula
-wide_result Kept = Leaf R
-wide_result (Longer f) = Leaf R
-wide_result (Begun f) = Leaf R
-wide_result (Found f) = Leaf R
-wide_result (Inside f) = Leaf R
-wide_result (Ended g f) = Join (Fold (range_op g)) (Leaf R) (taken_in (Ended g f))
-wide_result (Anew g f) = Join (Fold (range_op g)) (Leaf R) (taken_in (Anew g f))
-wide_result (FoundTwice f) = Leaf R
-wide_result (EndedTwice g f) = Join (Fold (range_op g)) (Leaf R) (taken_in (EndedTwice g f))
-wide_result (LongerNext f) = Leaf R
-wide_result (FoundNext f) = Leaf R
-wide_result (InsideNext f) = Leaf R
-wide_result Other = Leaf R
+-- and of R: it may be joined with what was found or is held
+abbrev pub result_by : Bool → Shape → Formula
+result_by wide (Ended g f) = Join (Fold (range_op g)) (Leaf R) (found_of wide (Fold (cell_op f)) (cell_word f))
+result_by wide (Anew g f) = Join (Fold (range_op g)) (Leaf R) (held_of wide)
+result_by wide (EndedTwice g f) =
+    Join (Fold (range_op g)) (Leaf R) (found_twice_of wide (Fold (cell_op f)) (cell_word f))
+result_by wide _ = Leaf R
 
 -- the split expressions of the move of a state on a letter: on `=` the next cell is read as the cell
 abbrev pub is_equal : Letter → Bool

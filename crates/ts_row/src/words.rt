@@ -8,16 +8,17 @@ ghost use Rattle.ts_row.specs.Plans.{read, words_formula};
 
 use ts_automaton::{Atom, Expr, Op, Turn};
 
-/// One word, an operator over two words, or one over a word and two more.
+/// One word, an operator over two words, one over a word and two more, or one over two words and again over a third.
 #[derive(Clone, Copy)]
 pub(crate) enum Words {
     Word(Atom),
     Two(Op, Atom, Atom),
     Three(Op, Atom, Op, Atom, Atom),
+    Again(Op, Atom, Atom, Atom),
 }
 
 /// The word that an expression is. Between equal values the next cell is read as the cell.
-pub(crate) fn word_of(e: &Expr, equal: bool) -> Option<Atom>
+fn word_of(e: &Expr, equal: bool) -> Option<Atom>
     ensures { IfSome result (λ a. read equal e.now ≡ Leaf a) }
 {
     match e {
@@ -49,17 +50,38 @@ fn two_of(e: &Expr, equal: bool) -> Option<(Op, Atom, Atom)>
 }
 
 /// The words of an operator over a word and one or two more.
+fn words_after(o: Op, first: Atom, e: &Expr, equal: bool) -> Option<Words>
+    ensures { IfSome result (λ p. Join (Fold o) (Leaf first) (read equal e.now) ≡ words_formula p) }
+{
+    match word_of(e, equal) {
+        Some(second) => Some(Words::Two(o, first, second)),
+        None => {
+            let (p, second, third) = two_of(e, equal)?;
+            Some(Words::Three(o, first, p, second, third))
+        }
+    }
+}
+
+/// The words of an operator over an expression and a word, if it joins two words in the expression too.
+fn words_before(o: Op, e: &Expr, third: Atom, equal: bool) -> Option<Words>
+    ensures { IfSome result (λ p. Join (Fold o) (read equal e.now) (Leaf third) ≡ words_formula p) }
+{
+    let (p, first, second) = two_of(e, equal)?;
+    if p == o {
+        Some(Words::Again(o, first, second, third))
+    } else {
+        None
+    }
+}
+
+/// The words of an operator over two expressions, if they are few.
 fn joined_words(o: Op, a: &Expr, b: &Expr, equal: bool) -> Option<Words>
     ensures { IfSome result (λ p. Join (Fold o) (read equal a.now) (read equal b.now)
         ≡ words_formula p) }
 {
-    let first = word_of(a, equal)?;
-    match word_of(b, equal) {
-        Some(second) => Some(Words::Two(o, first, second)),
-        None => {
-            let (p, second, third) = two_of(b, equal)?;
-            Some(Words::Three(o, first, p, second, third))
-        }
+    match word_of(a, equal) {
+        Some(first) => words_after(o, first, b, equal),
+        None => words_before(o, a, word_of(b, equal)?, equal),
     }
 }
 
@@ -72,6 +94,49 @@ pub(crate) fn words_of(e: &Expr, equal: bool) -> Option<Words>
         Expr::Max(a, b) => joined_words(Op::Max, a, b, equal),
         Expr::Min(a, b) => joined_words(Op::Min, a, b, equal),
         _ => Some(Words::Word(word_of(e, equal)?)),
+    }
+}
+
+/// Whether two operators are the same.
+fn is_op(o: Op, p: Op) -> bool
+    ensures { result ≡ true → o ≡ p }
+{
+    o == p
+}
+
+/// Whether two words are the same.
+fn is_atom(a: Atom, b: Atom) -> bool
+    ensures { result ≡ true → a ≡ b }
+{
+    a == b
+}
+
+/// Whether words are the same.
+fn are_equal(v: Words, w: Words) -> bool
+    ensures { result ≡ true → v ≡ w }
+{
+    match (v, w) {
+        (Words::Word(a), Words::Word(d)) => is_atom(a, d),
+        (Words::Two(o, a, b), Words::Two(q, d, e)) => {
+            is_op(o, q) && is_atom(a, d) && is_atom(b, e)
+        }
+        (Words::Three(o, a, p, b, c), Words::Three(q, d, r, e, f)) => {
+            is_op(o, q) && is_atom(a, d) && is_op(p, r) && is_atom(b, e) && is_atom(c, f)
+        }
+        (Words::Again(o, a, b, c), Words::Again(q, d, e, f)) => {
+            is_op(o, q) && is_atom(a, d) && is_atom(b, e) && is_atom(c, f)
+        }
+        _ => false,
+    }
+}
+
+/// Whether an expression is that of the words.
+pub(crate) fn is_words(e: &Expr, w: Words, equal: bool) -> bool
+    ensures { result ≡ true → read equal e.now ≡ words_formula w }
+{
+    match words_of(e, equal) {
+        Some(v) => are_equal(v, w),
+        None => false,
     }
 }
 
