@@ -90,12 +90,9 @@ fronts c e d f r = each (FrontOf c) (FrontOf e) (FrontOf d) (FrontOf f) (FrontOf
 abbrev pub least : Formula → Formula
 least e = Join (Fold Min) e (Leaf This)
 
--- nothing changes; D goes on; D begins anew; C becomes of D and a word, and D begins anew; C becomes of C, D and a
--- word, and D begins anew; R becomes of R and of what was found, and D begins anew; R becomes of R and what is held,
--- and both begin anew. E changes as C does and F as D does, by the lesser; a narrow automaton has neither.
-abbrev pub kept_fronts : Cut
-kept_fronts = fronts (Leaf C) (Leaf E) (Leaf D) (Leaf F) (Leaf R)
-
+-- D goes on; D begins anew; C becomes of D and a word, and D begins anew; C becomes of C, D and a word, and D begins
+-- anew; R becomes of R and of what was found, and D begins anew; R becomes of R and what is held, and both begin anew.
+-- E changes as C does and F as D does, by the lesser; a narrow automaton has neither.
 abbrev pub longer_fronts : Operator → Formula → Cut
 longer_fronts o w = fronts (Leaf C) (Leaf E) (Join o (Leaf D) w) (least (Leaf F)) (Leaf R)
 
@@ -153,30 +150,7 @@ found_of wide o w = less_of wide (Join o (Leaf D) w) (least (Leaf F))
 abbrev pub found_twice_of : Bool → Operator → Formula → Formula
 found_twice_of wide o w = less_of wide (twice_by o w) (least (least (Leaf F)))
 
--- what a shape says of the split expressions of a move
-abbrev pub IsShapeOf : Bool → Shape → Cut → Type 0
-IsShapeOf wide Kept k = k ≡ of_width wide kept_fronts
-IsShapeOf wide (Longer f) k = k ≡ of_width wide (longer_fronts (Fold (cell_op f)) (cell_word f))
-IsShapeOf wide (Begun f) k = k ≡ of_width wide (begun_fronts (cell_start f))
-IsShapeOf wide (Found f) k = k ≡ of_width wide (found_fronts (Fold (cell_op f)) (cell_word f) (cell_start f))
-IsShapeOf wide (Inside f) k = k ≡ of_width wide (inside_fronts (Fold (cell_op f)) (cell_word f) (cell_start f))
-IsShapeOf wide (Ended g f) k =
-    k ≡ of_width wide
-    (ended_fronts (Fold (range_op g)) (found_of wide (Fold (cell_op f)) (cell_word f)) (cell_start f))
-IsShapeOf wide (Anew g f) k =
-    k ≡ of_width wide (anew_fronts (Fold (range_op g)) (range_start g) (held_of wide) (cell_start f))
-IsShapeOf wide (FoundTwice f) k =
-    k ≡ of_width wide (found_twice_fronts (Fold (cell_op f)) (cell_word f) (cell_start f))
-IsShapeOf wide (EndedTwice g f) k =
-    k ≡ of_width wide
-    (ended_fronts (Fold (range_op g)) (found_twice_of wide (Fold (cell_op f)) (cell_word f)) (cell_start f))
-IsShapeOf wide (LongerNext f) k = k ≡ of_width wide (longer_tails (cell_op f))
-IsShapeOf wide (FoundNext f) k =
-    k ≡ of_width wide (found_tails (Fold (cell_op f)) (cell_op f) (cell_word f) (cell_start f))
-IsShapeOf wide (InsideNext f) k = k ≡ of_width wide (inside_tails (Fold (cell_op f)) (cell_op f) (cell_start f))
-IsShapeOf wide Other k = Unit {0}
-
--- what it says of the expressions of C, E, D and F
+-- what a shape says of the expressions of C, E, D and F
 abbrev pub made_by : Shape → Formula × Formula × Formula × Formula
 made_by Kept = (Leaf C, Leaf E, Leaf D, Leaf F)
 made_by (Longer f) = (Leaf C, Leaf E, once f, least (Leaf F))
@@ -205,6 +179,16 @@ result_by wide (Anew g f) = Join (Fold (range_op g)) (Leaf R) (held_of wide)
 result_by wide (EndedTwice g f) =
     Join (Fold (range_op g)) (Leaf R) (found_twice_of wide (Fold (cell_op f)) (cell_word f))
 result_by wide _ = Leaf R
+
+-- what it says of the split expressions of a move: they are fronts, but where the next cell is read
+abbrev pub IsShapeOf : Bool → Shape → Cut → Type 0
+IsShapeOf wide (LongerNext f) k = k ≡ of_width wide (longer_tails (cell_op f))
+IsShapeOf wide (FoundNext f) k =
+    k ≡ of_width wide (found_tails (Fold (cell_op f)) (cell_op f) (cell_word f) (cell_start f))
+IsShapeOf wide (InsideNext f) k = k ≡ of_width wide (inside_tails (Fold (cell_op f)) (cell_op f) (cell_start f))
+IsShapeOf wide Other k = Unit {0}
+IsShapeOf wide s k =
+    k ≡ of_width wide (fronts (made_by s).0 (made_by s).1 (made_by s).2 (made_by s).3 (result_by wide s))
 
 -- the split expressions of the move of a state on a letter: on `=` the next cell is read as the cell
 abbrev pub is_equal : Letter → Bool
