@@ -1,6 +1,5 @@
 -- The shape of a move, by its expressions: those that a shape names are split as it says.
-use Rattle.std.proofs.Common.{◌≡◌, Bool, true, false, not, ◌&&◌, ◌||◌, refl, sym, ap, subst, ◌∙◌}
-use Rattle.std.proofs.lemmas.Bool.{and_parts}
+use Rattle.std.proofs.Common.{◌≡◌, Bool, true, false, ◌&&◌, refl, sym, ap, subst, ◌∙◌}
 use Rattle.ts_automaton.specs.Body.{Move}
 use Rattle.ts_automaton.specs.declared.expr.Atom.TheVariants.{C, E, F}
 use Rattle.ts_automaton.specs.Formula.{Formula, Leaf, is_zero}
@@ -89,24 +88,19 @@ rest_same : (wide : Bool) (e f : Formula) → (wide ≡ true → e ≡ f) → re
 rest_same true e f h = ap split_formula (h refl)
 rest_same false e f h = refl
 
-shape_is : (wide : Bool) (s : Shape) (m : Move) → rests is_zero wide m.to ≡ true → m.to.c ≡ (made_by s).0 → (wide ≡ true → m.to.e ≡ (made_by s).1) →
-    m.to.d ≡ (made_by s).2 → (wide ≡ true → m.to.f ≡ (made_by s).3) → m.to.r ≡ result_by wide s → IsShapeOf wide s (cut_of m)
-shape_is wide s m zero c e d f r =
+shape_is : (wide : Bool) (s : Shape) (m : Move) → rests is_zero wide m.to ≡ true → m.to.c ≡ (made_by s).0 → m.to.d ≡ (made_by s).2 →
+    m.to.r ≡ result_by wide s → (wide ≡ true → (m.to.e ≡ (made_by s).1) × (m.to.f ≡ (made_by s).3)) → IsShapeOf wide s (cut_of m)
+shape_is wide s m zero c d r low =
     let same : of_width wide (cut_of m) ≡ of_width wide (cut_of (made_move wide s)) =
-    same_cut (ap split_formula c) (rest_same wide m.to.e (made_by s).1 e) (ap split_formula d) (rest_same wide m.to.f (made_by s).3 f) (ap split_formula r) in
+    same_cut (ap split_formula c) (rest_same wide m.to.e (made_by s).1 (λ w. (low w).0)) (ap split_formula d)
+    (rest_same wide m.to.f (made_by s).3 (λ w. (low w).1)) (ap split_formula r) in
     subst (IsShapeOf wide s) (sym (width_cut wide m zero ∙ same)) (shape_made wide s)
 
 -- so has a move whose expressions pass tests of them
-where_wide : (wide e f : Bool) → (not wide || (e && f)) ≡ true → wide ≡ true → (e && f) ≡ true
-where_wide true e f h w = h
-where_wide false e f h w = cc
-
-pub tested_shape : (wide : Bool) (s : Shape) (m : Move) (c e d f r : Bool) → rests is_zero wide m.to ≡ true → (c ≡ true → m.to.c ≡ (made_by s).0) →
-    (e ≡ true → m.to.e ≡ (made_by s).1) → (d ≡ true → m.to.d ≡ (made_by s).2) → (f ≡ true → m.to.f ≡ (made_by s).3) →
-    (r ≡ true → m.to.r ≡ result_by wide s) → (c && d && r && (not wide || (e && f))) ≡ true → IsShapeOf wide s (cut_of m)
-tested_shape wide s m true e true f true zero c_is e_is d_is f_is r_is is =
-    shape_is wide s m zero (c_is refl) (λ w. e_is (and_parts e f (where_wide wide e f is w)).0) (d_is refl)
-    (λ w. f_is (and_parts e f (where_wide wide e f is w)).1) (r_is refl)
-tested_shape wide s m true e true f false zero c_is e_is d_is f_is r_is is = cc
-tested_shape wide s m true e false f r zero c_is e_is d_is f_is r_is is = cc
-tested_shape wide s m false e d f r zero c_is e_is d_is f_is r_is is = cc
+pub tested_shape : (wide : Bool) (s : Shape) (m : Move) (c d r low : Bool) → rests is_zero wide m.to ≡ true → (c ≡ true → m.to.c ≡ (made_by s).0) →
+    (d ≡ true → m.to.d ≡ (made_by s).2) → (r ≡ true → m.to.r ≡ result_by wide s) →
+    (low ≡ true → wide ≡ true → (m.to.e ≡ (made_by s).1) × (m.to.f ≡ (made_by s).3)) → (c && d && r && low) ≡ true → IsShapeOf wide s (cut_of m)
+tested_shape wide s m true true true low zero c_is d_is r_is low_is is = shape_is wide s m zero (c_is refl) (d_is refl) (r_is refl) (low_is is)
+tested_shape wide s m true true false low zero c_is d_is r_is low_is is = cc
+tested_shape wide s m true false r low zero c_is d_is r_is low_is is = cc
+tested_shape wide s m false d r low zero c_is d_is r_is low_is is = cc

@@ -275,6 +275,14 @@ fn is_result(e: &Expr, s: Shape, wide: bool, equal: bool) -> bool
     }
 }
 
+/// Whether the expressions of E and F in a move are those of the words. A narrow automaton has neither.
+fn are_low(t: &Turn, e: Words, f: Words, wide: bool, equal: bool) -> bool
+    ensures { result ≡ true → wide ≡ true →
+        (read equal t.now.e ≡ words_formula e) × (read equal t.now.f ≡ words_formula f) }
+{
+    !wide || is_words(&t.e, e, equal) && is_words(&t.f, f, equal)
+}
+
 /// Whether a move of an automaton of a width has a shape.
 fn is_shape(t: &Turn, s: Shape, wide: bool, equal: bool) -> bool
     requires { rests is_zero wide (here_move equal (move_of t.now)).to ≡ true }
@@ -285,7 +293,7 @@ fn is_shape(t: &Turn, s: Shape, wide: bool, equal: bool) -> bool
     is_words(&t.c, c, equal)
         & is_words(&t.d, d, equal)
         & is_result(&t.r, s, wide, equal)
-        & (!wide | (is_words(&t.e, e, equal) & is_words(&t.f, f, equal)))
+        & are_low(t, e, f, wide, equal)
 }
 
 /// The only shape that a move may have that keeps R, by its words of C and D.

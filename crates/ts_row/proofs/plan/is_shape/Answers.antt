@@ -6,6 +6,6 @@ use Rattle.ts_row.proofs.plan.is_shape.Goals as goal
 
 pub returns : goal.returns
 returns c =
-    tested_shape c.args.wide c.args.s (here_move c.args.equal (move_of c.args.t.now)) c.is_words.result c.is_words-3.result c.is_words-2.result
-    c.is_words-4.result c.is_result.result c.requires (λ t. c.is_words.ensures t ∙ c.held_words-c.ensures.c) (λ t. c.is_words-3.ensures t ∙ c.held_words-c.ensures.e)
-    (λ t. c.is_words-2.ensures t ∙ c.open_words-d.ensures.d) (λ t. c.is_words-4.ensures t ∙ c.open_words-d.ensures.f) c.is_result.ensures
+    tested_shape c.args.wide c.args.s (here_move c.args.equal (move_of c.args.t.now)) c.is_words.result c.is_words-2.result c.is_result.result c.are_low.result
+    c.requires (λ t. c.is_words.ensures t ∙ c.held_words-c.ensures.c) (λ t. c.is_words-2.ensures t ∙ c.open_words-d.ensures.d) c.is_result.ensures
+    (λ t w. ((c.are_low.ensures t w).0 ∙ c.held_words-c.ensures.e, (c.are_low.ensures t w).1 ∙ c.open_words-d.ensures.f))
