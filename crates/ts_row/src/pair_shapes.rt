@@ -24,7 +24,7 @@ ghost use Rattle.ts_sweep.specs.PairMoves.{
   pair_op,
   start_atom,
 };
-ghost use Rattle.ts_sweep.specs.Sides.{as_read, has_wide, sides};
+ghost use Rattle.ts_sweep.specs.Sides.{as_read, has_wide, lane_count, sides};
 
 use crate::between::{Between, On};
 use crate::cell::Cell;
@@ -33,9 +33,10 @@ use ts_base::Letter;
 use ts_sweep::cover::Cover;
 use ts_sweep::front::{Front, Register};
 use ts_sweep::packed::{Packed, PackedHull};
-use ts_sweep::pair_move::{AnyMove, Emission, are_begun};
+use ts_sweep::pair_move::{AnyMove, Emission, PairMove, are_begun};
 use ts_sweep::pairs::take_pairs;
 use ts_sweep::spread::take_spread;
+use ts_sweep::values::Listed;
 
 /// Whether an expression is a word.
 fn is_word(e: &Expr, word: Atom) -> bool
@@ -146,6 +147,40 @@ fn is_plain(ranges: Op, cover: &Cover) -> bool
     ranges != Op::Add || Register::<4>.is_fit(true, cover)
 }
 
+/// Takes in a move by pairs of values. The loops over them are given the values by themselves and not their cells, so
+/// that they needn't look for them at each pair.
+#[inline(always)]
+fn take_listed<const N: usize, M: PairMove>(
+    by: M,
+    on: On,
+    t: &Between<'_, N>,
+    next: &mut [PackedHull<N>],
+)
+    requires covered { IsCovered N t.now }
+    requires width { rests is_zero (has_wide N) (M.made by).to ≡ true }
+    requires suits { IsMoveFor (sides N) (M.made by) }
+    requires fit { (i : ℕ) → i < count_in t.now.values.now →
+        some_lanes (lanes_of N (get_or t.now.before.now i (nothing N))) ≡ true →
+        M.fit by (sides N) (lane_count N) (as_read (sides N) (lanes_of N (get_or t.now.before.now i (nothing N)))) }
+    requires next_packed { IsColumn N (count_in t.now.next_values.now) next.old }
+    ensures packed { IsColumn N (count_in t.now.next_values.now) next.new }
+    ensures moved { HasMoved N t.now on (M.made by) next.old next.new }
+{
+    take_pairs::<PackedHull<N>, M, Listed<'_>, Listed<'_>>(
+        by,
+        on.letter,
+        on.twin,
+        Listed {
+            values: t.values.values,
+        },
+        t.before,
+        Listed {
+            values: t.next_values.values,
+        },
+        next,
+    );
+}
+
 /// Takes in an emission.
 #[inline(always)]
 fn emit_as<const N: usize>(by: Emission<'_>, on: On, t: &Between<'_, N>, next: &mut [PackedHull<N>])
@@ -157,15 +192,7 @@ fn emit_as<const N: usize>(by: Emission<'_>, on: On, t: &Between<'_, N>, next: &
     ensures packed { IsColumn N (count_in t.now.next_values.now) next.new }
     ensures moved { HasMoved N t.now on (move_of by.entry.turn.now) next.old next.new }
 {
-    take_pairs::<PackedHull<N>, Emission<'_>, &Cell<'_>, &Cell<'_>>(
-        by,
-        on.letter,
-        on.twin,
-        t.values,
-        t.before,
-        t.next_values,
-        next,
-    );
+    take_listed(by, on, t, next);
 }
 
 /// An emission whose operators are those given.
@@ -318,13 +345,5 @@ pub(crate) fn take_by_pairs<const N: usize>(
     if take_emission(turn, on, t, next) {
         return;
     }
-    take_pairs::<PackedHull<N>, AnyMove<'_>, &Cell<'_>, &Cell<'_>>(
-        AnyMove { turn },
-        on.letter,
-        on.twin,
-        t.values,
-        t.before,
-        t.next_values,
-        next,
-    );
+    take_listed(AnyMove { turn }, on, t, next);
 }
