@@ -7,6 +7,7 @@ pub mod Reached
 pub mod ShapeLaws
 pub mod NextShapes
 pub mod PairShapes
+pub mod SumShapes
 pub mod PlanLaws
 pub mod Flat
 pub mod StartLaws

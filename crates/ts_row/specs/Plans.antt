@@ -12,7 +12,7 @@ use Rattle.ts_automaton.specs.Formula.{Formula, Leaf, Join, formula}
 use Rattle.ts_automaton.specs.Registers.{each}
 use Rattle.ts_automaton.specs.Body.{Body}
 use Rattle.ts_hull.specs.Sealed.{move_at}
-use Rattle.ts_hull.specs.Splits.{FrontOf, TailOf}
+use Rattle.ts_hull.specs.Splits.{Split, FrontOf, TailOf}
 use Rattle.ts_hull.specs.Cuts.{Cut, cut_of}
 use Rattle.ts_sweep.specs.Here.{here_formula, here_move}
 use Rattle.ts_sweep.specs.Moves.{of_width}
@@ -134,6 +134,10 @@ inside_tails p o d =
 -- an expression, joined with the next cell
 abbrev pub next_to : Op → Formula → Formula
 next_to o e = Join (Fold o) e (Leaf Next)
+
+-- R becomes of something that is split so, and D begins anew
+abbrev pub emitted_cut : Formula → Split → Cut
+emitted_cut d r = each (FrontOf (Leaf C)) (FrontOf (Leaf E)) (FrontOf d) (FrontOf (Leaf HighAtom)) r
 
 -- what is held: in a wide automaton C less E
 abbrev pub held_of : Bool → Formula

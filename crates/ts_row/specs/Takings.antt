@@ -11,7 +11,7 @@ use Rattle.ts_row.specs.declared.plan.Shape.{Shape}
 use Rattle.ts_row.specs.Plans.{IsShapeOf}
 use Rattle.ts_row.specs.Rows.{gives_to, lanes_of, nothing, IsColumn}
 use Rattle.ts_sweep.specs.declared.packed.PackedHull.{PackedHull}
-use Rattle.ts_sweep.specs.Columns.{IsMoved, hull_at}
+use Rattle.ts_sweep.specs.Columns.{IsMoved, IsTurned, hull_at}
 use Rattle.ts_sweep.specs.Covers.{IsCoverOf}
 use Rattle.ts_sweep.specs.declared.pair_move.Emission.{Emission}
 use Rattle.ts_sweep.specs.Lanes.{some_lanes}
@@ -43,6 +43,13 @@ MovesBy n t on k old new = (m : Move) → cut_of m ≡ k → HasMoved n t on m o
 -- with these where registers have lanes
 abbrev pub MovesAs : (n : ℕ) → Between n → On → Cut → List (PackedHull n) → List (PackedHull n) → Type 0
 MovesAs n t on k old new = MovesBy n t on (of_width (has_wide n) k) old new
+
+-- with the next cell negated
+abbrev pub TurnsAs : (n : ℕ) → Between n → On → Cut → List (PackedHull n) → List (PackedHull n) → Type 0
+TurnsAs n t on k old new =
+    (m : Move) → cut_of m ≡ of_width (has_wide n) k →
+    IsTurned (sides n) (lanes_of n) (nothing n) m on.letter on.twin (count_in t.values.now) (value_in t.values.now)
+    t.before.now (count_in t.next_values.now) (value_in t.next_values.now) old new
 
 abbrev pub IsShapeTaken : (n : ℕ) → Between n → On → Shape → List (PackedHull n) → List (PackedHull n) → Type 0
 IsShapeTaken n t on s old new = (m : Move) → IsShapeOf (has_wide n) s (cut_of m) → HasMoved n t on m old new

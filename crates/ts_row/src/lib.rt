@@ -25,6 +25,7 @@ mod row_steps;
 mod row_view;
 mod shapes;
 mod start;
+mod sum_shapes;
 mod words;
 
 pub use cell::Cell;

@@ -28,7 +28,7 @@ use ts_sweep::take::take_next;
 
 /// Takes in a move that may read the next cell by a sweep, if its numbers and sums stay small.
 #[inline(always)]
-fn sweep_next<const N: usize, F: Moves<PackedHull<N>>>(
+pub(crate) fn sweep_next<const N: usize, F: Moves<PackedHull<N>>>(
     by: F,
     on: On,
     t: &Between<'_, N>,

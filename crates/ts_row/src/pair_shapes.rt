@@ -28,6 +28,7 @@ ghost use Rattle.ts_sweep.specs.Sides.{as_read, has_wide, lane_count, sides};
 
 use crate::between::{Between, On};
 use crate::cell::Cell;
+use crate::sum_shapes::sweep_sums;
 use ts_automaton::{Atom, Expr, Op, Turn};
 use ts_base::Letter;
 use ts_sweep::cover::Cover;
@@ -229,6 +230,29 @@ fn emit<const N: usize>(by: Emission<'_>, on: On, t: &Between<'_, N>, next: &mut
     }
 }
 
+/// Takes in an emission: by the sweep of what it adds where that may be, or else by pairs of values.
+fn take_found<const N: usize>(
+    by: Emission<'_>,
+    on: On,
+    t: &Between<'_, N>,
+    next: &mut [PackedHull<N>],
+)
+    requires covered { IsCovered N t.now }
+    requires width { rests is_zero (has_wide N) (move_of by.turn.now).to ≡ true }
+    requires suits { IsMoveFor (sides N) (move_of by.turn.now) }
+    requires made { (move_of by.turn.now).to ≡ emission (has_wide N) by.ranges by.greatest }
+    requires one { has_wide N ≡ true → by.greatest ≡ true }
+    requires fit { AreEmitted N by (count_in t.now.values.now) t.now.before.now }
+    requires next_packed { IsColumn N (count_in t.now.next_values.now) next.old }
+    ensures packed { IsColumn N (count_in t.now.next_values.now) next.new }
+    ensures moved { HasMoved N t.now on (move_of by.entry.turn.now) next.old next.new }
+{
+    if sweep_sums(by, on, t, next) {
+        return;
+    }
+    emit(by, on, t, next);
+}
+
 /// Whether the greatest of the ranges is taken, or the least, where a move that takes in ranges may be swept.
 #[inline(always)]
 fn spread_of<const N: usize>(ranges: Op, letter: Letter) -> Option<bool>
@@ -287,7 +311,7 @@ fn take_begun<const N: usize>(
 {
     match spread_of::<N>(by.ranges, on.letter) {
         Some(greatest) => spread(greatest, on, t, next),
-        None => emit(by, on, t, next),
+        None => take_found(by, on, t, next),
     }
 }
 

@@ -27,6 +27,8 @@ pub mod SmallLanes
 pub mod Unpacked
 pub mod PairSteps
 pub mod PairLaws
+pub mod TurnedMoves
+pub mod PairSweeps
 pub mod SpreadLanes
 pub mod SpreadSteps
 pub mod SpreadWalks

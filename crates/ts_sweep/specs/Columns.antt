@@ -1,5 +1,5 @@
 -- What a move makes of the hulls of a state, which stand in a column.
-use Rattle.std.specs.Prelude.{◌≡◌, ℕ, ◌<◌, Bool, cond, ℤ, List, get_or, set}
+use Rattle.std.specs.Prelude.{◌≡◌, ℕ, ◌<◌, Bool, cond, ℤ, neg_ℤ, List, get_or, set}
 use Rattle.ts_base.specs.declared.letter.Letter.{Letter}
 use Rattle.ts_automaton.specs.declared.regs.Hull.{Hull}
 use Rattle.ts_automaton.specs.Body.{Move}
@@ -26,6 +26,18 @@ IsMoved s lanes nothing m l twin n v before k w old new =
     (j : ℕ) → j < k → hull_at lanes nothing new j
     ≡ hull_of_both (hull_at lanes nothing old j)
     (seen_hull s (gives m l twin n v (hull_at lanes nothing before) (w j)))
+
+-- what it gives with the next value negated, and each of the next column has taken that in
+unfoldable pub gives_turned : Move → Letter → Bool → ℕ → (ℕ → ℤ) → (ℕ → Hull) → ℤ → Hull
+gives_turned m l twin n v h w =
+    total n (λ i. cond (compares l twin (v i) w) (after_move m (h i) (v i) (neg_ℤ w)) none)
+
+abbrev pub IsTurned : {X : Type 0} → Sides → (X → List ℤ) → X → Move → Letter → Bool → ℕ → (ℕ → ℤ) → List X → ℕ →
+    (ℕ → ℤ) → List X → List X → Type 0
+IsTurned s lanes nothing m l twin n v before k w old new =
+    (j : ℕ) → j < k → hull_at lanes nothing new j
+    ≡ hull_of_both (hull_at lanes nothing old j)
+    (seen_hull s (gives_turned m l twin n v (hull_at lanes nothing before) (w j)))
 
 -- the hull at a place of a column is joined with one that stands for h
 pub record IsGift {X : Type 0} (both : X → X → X) (lanes : X → List ℤ) (nothing : X) (n : ℕ) (h : Hull) (j : ℕ)

@@ -76,6 +76,12 @@ found_ends wide greatest x y =
     if wide then ends (int_min x y -ℤ int_max x y) (int_max x y -ℤ int_min x y)
     else number_ends (if greatest then int_max x y else int_min x y)
 
+-- the greatest of a cell and the next one, or the least, where they compare as a letter says
+abbrev pub found_atom : Letter → Bool → Atom
+found_atom Less greatest = if greatest then Next else This
+found_atom Equal greatest = This
+found_atom Greater greatest = if greatest then This else Next
+
 -- D and F hold no cell yet, as far as their ends are kept
 abbrev pub IsBegun : Sides → Bool → Bool → List ℤ → Type 0
 IsBegun s wide greatest xs =

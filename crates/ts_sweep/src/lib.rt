@@ -49,4 +49,5 @@ pub mod sweep;
 pub mod swept;
 pub mod take;
 pub mod tree;
+pub mod turned;
 pub mod values;

@@ -127,7 +127,7 @@ pub fn take<H: Hull, F: Fronts<H>, V: Values, W: Values, C: Column<H>>(
 
 /// Whether the sums of a move stay small on all hulls of a column: whether they do under its cover.
 #[inline(always)]
-fn all_fit<H: Packed, F: Moves<H>>(by: F, cover: &Cover, hulls: &[H]) -> bool
+pub(crate) fn all_fit<H: Packed, F: Moves<H>>(by: F, cover: &Cover, hulls: &[H]) -> bool
     requires registers { 6 ≤ H.count }
     requires packed { ArePacked H.lanes H.none H.count (length hulls.now) hulls.now }
     requires covers { IsCoverOf H.sides H.lanes H.none cover.now (length hulls.now) hulls.now }
