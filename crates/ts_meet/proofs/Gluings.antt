@@ -1,6 +1,7 @@
 -- What is glued of ends stands for what is glued of spans; where sums are plain, they meet small numbers.
+use mir.Val.{SFits}
 use Rattle.std.specs.Int.{int_max, int_min}
-use Rattle.std.proofs.Common.{◌≡◌, ◌⊎◌, inl, inr, ℕ, zero, suc, ◌+◌, ◌*◌, ◌≤◌, ◌<◌, ◌≤ℤ◌, ◌<ℤ◌, ℤ, pos, neg_ℤ, Bool, true, false, cond, ◌||◌, nat_lt, List, [], ◌∷◌, get_or, refl, sym, ap, subst, ◌∙◌, arith, rules}
+use Rattle.std.proofs.Common.{◌≡◌, ◌⊎◌, inl, inr, ℕ, zero, suc, ◌+◌, ◌*◌, ◌≤◌, ◌<◌, ◌≤ℤ◌, ◌<ℤ◌, ℤ, pos, negsuc, neg_ℤ, Bool, true, false, cond, ◌||◌, nat_lt, w64, List, [], ◌∷◌, get_or, refl, sym, ap, subst, ◌∙◌, arith, rules}
 use Rattle.std.proofs.lemmas.Int.{ints}
 use Rattle.ts_base.specs.declared.ext.Ext.TheVariants.{Int}
 use Rattle.ts_base.specs.declared.op.Op.{Op}
@@ -27,10 +28,11 @@ use Rattle.ts_sweep.specs.Lanes.{least}
 use Rattle.ts_sweep.specs.OperatorLaws.{sum_within, greater_within, less_within, lesser_within}
 use Rattle.ts_sweep.specs.Operators.{crossed, sum_of_ends}
 use Rattle.ts_sweep.specs.Packed.{AreSome, AreWithin, IsPackOf, IsSomeEnds, IsWithin, register_span}
+use Rattle.ts_sweep.specs.PackedLaws.{same_ends}
 use Rattle.ts_meet.specs.declared.gluing.Gluing.{Gluing}
 use Rattle.ts_meet.specs.Joints.{IsFoldPlain, IsHeldPlain, IsOpenPlain, IsPlain, between_expression, both_expression, expression, folds_held, held_ends, is_add, joined_expression, leaves_out, open_ends, part_by}
 use Rattle.ts_meet.specs.SideLaws.{cell_within, far_infinity, near_small}
-use Rattle.ts_meet.specs.Sides.{AreSomeEnds, ArePackOf, IsNear, TakesAny, TakesNear, TakesPlain, is_far, plain_by, plain_values}
+use Rattle.ts_meet.specs.Sides.{AreSomeEnds, ArePackOf, IsNear, IsNeutral, TakesAny, TakesNear, TakesPlain, is_far, plain_by, plain_values}
 
 -- registers alone stand in it
 abbrev OfRegisters : Formula → Type 0
@@ -617,21 +619,36 @@ module _ (a b : EachOf Ends) where
     near_joined g h plain j w =
         subst (λ z. GlueTakes TakesNear plain_values a b (join_of g.result (fold_of z g.fold (part_by g)))) (sym w) (near_wide g h plain j w)
 
-    held_near : (v : Bool) (s : EachOf Ends) → AreSomeEnds s → IsHeldPlain v s → v ≡ true → is_far s.c ≡ false
-    held_near v s some (e, inl c) t = near_small s.c (are_within 1 s.c (omega arith) (small s.c some.0 c))
-    held_near v s some (e, inr free) t = never_added (sym t ∙ free.0)
+-- nothing is taken away from an infinity where C is held
+pub held_near : (s : EachOf Ends) → AreSomeEnds s → ArePlain s.c → is_far s.c ≡ false
+held_near s some plain = near_small s.c (are_within 1 s.c (omega arith) (small s.c some.0 plain))
 
-    near_apart_wide : (g : Gluing) → IsPlain g a b → g.joins ≡ false → g.wide ≡ true → is_add g.result ≡ true →
-        GlueTakes TakesNear plain_values a b (apart true g.result)
-    near_apart_wide g plain j w e =
-        let h = plain.held w j in let t = apart_wide g plain j w true e in
-        let fa = held_near (is_add g.result) a some_a h.0 e in let fb = held_near (is_add g.result) b some_b h.1 e in
-        ((tt, (tt, tt, (t.0.1.2, fa)), (t.0.2, tt)), (tt, (tt, tt, (t.1.1.2, fb)), (t.1.2, tt)), (t.2, tt))
+-- where it isn't, the answer is R
 
-    pub near_apart : (g : Gluing) → IsPlain g a b → g.joins ≡ false → g.wide ≡ true → is_add g.result ≡ true →
-        GlueTakes TakesNear plain_values a b (apart g.wide g.result)
-    near_apart g plain j w e =
-        subst (λ z. GlueTakes TakesNear plain_values a b (apart z g.result)) (sym w) (near_apart_wide g plain j w e)
+under_high : (x : ℤ) → SFits w64 x → int_min x (pos 9223372036854775807) ≡ x
+under_high x fits = grind (arith, ints, fits)
+
+over_low : (x : ℤ) → least <ℤ x → int_max x (negsuc 9223372036854775806) ≡ x
+over_low x above = grind (arith, ints, above)
+
+neutral_kept : (o : Op) (r c : Ends) → SFits w64 r.below → SFits w64 r.above → IsSomeEnds r → IsNeutral o c → plain_by (Fold o) r c ≡ r
+neutral_kept Add r c f g some n = absurd n
+neutral_kept Max r c f g some n =
+    same_ends _ _ _ _ (ap (int_min r.below) n.0 ∙ under_high r.below f) (ap (int_max r.above) n.1 ∙ over_low r.above some.above)
+neutral_kept Min r c f g some n =
+    same_ends _ _ _ _ (ap (int_max r.below) n.0 ∙ over_low r.below some.below) (ap (int_min r.above) n.1 ∙ under_high r.above g)
+
+neutral_far : (o : Op) (c : Ends) → IsNeutral o c → is_far c ≡ true
+neutral_far Add c n = absurd n
+neutral_far Max c n = far_infinity c (inl n)
+neutral_far Min c n = far_infinity c (inr n)
+
+pub unheld_answer : (o : Op) (s : EachOf Ends) → SFits w64 s.r.below → SFits w64 s.r.above → IsSomeEnds s.r → IsNeutral o s.c →
+    s.r ≡ value_in plain_values s (pos 0) (pos 0) (result_of true o)
+unheld_answer o s f g some n =
+    sym
+    (ap (λ b. plain_by (Fold o) s.r (cond b s.c (sum_of_ends s.c (crossed s.e)))) (neutral_far o s.c n)
+    ∙ neutral_kept o s.r s.c f g some n)
 
 pub trims_is : (a : ℕ) → nat_lt 0 a ≡ leaves_out a
 trims_is zero = refl

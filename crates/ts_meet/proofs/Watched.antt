@@ -11,16 +11,18 @@ use Rattle.ts_sweep.specs.declared.packed.Ends.{Ends}
 use Rattle.ts_sweep.specs.declared.packed.PackedHull.{PackedHull}
 use Rattle.ts_sweep.specs.FrontLaws.{never_added}
 use Rattle.ts_sweep.specs.Fronts.{ArePlain}
-use Rattle.ts_sweep.specs.Packed.{ends, max_ends}
-use Rattle.ts_sweep.specs.Sides.{sides}
+use Rattle.ts_sweep.specs.Packed.{IsPacked, ends, max_ends}
+use Rattle.ts_sweep.specs.Sides.{lane_count, sides}
 use Rattle.ts_meet.specs.declared.gluing.Gluing.{Gluing}
 use Rattle.ts_meet.specs.declared.peaks.Peaks.{Peaks}
-use Rattle.ts_meet.specs.declared.small.Small.{Small}
 use Rattle.ts_meet.specs.declared.column.Watched.{Watched}
+use Rattle.ts_meet.specs.declared.column.Watched.TheVariants.{Wide}
 use Rattle.ts_glue.specs.declared.operand.Part.TheVariants.{Whole, Away}
 use Rattle.ts_meet.specs.Joints.{IsFoldPlain, IsHeldPlain, IsOpenPlain, IsPlain, folds_held, is_add}
-use Rattle.ts_meet.specs.Peaks.{AreBelow, AreRestSmall, AreTaken, AreWatched, AreAllSo, IsBelow, IsHullSo, IsKnown, IsSmall, IsUnder, sides_of_peaks}
-use Rattle.ts_meet.specs.Sides.{IsInfinity, side_of}
+use Rattle.ts_meet.specs.Peaks.{AreBelow, AreRestSmall, AreTaken, AreWatched, HoldsInHull, HoldsInHulls, IsBelow, IsHeldBy, IsKnown, IsSmall, IsUnder, sides_of_peaks}
+use Rattle.ts_meet.specs.Settled.{ArePlaces}
+use Rattle.ts_meet.specs.Sides.{side_of}
+use Rattle.ts_meet.proofs.Asking.{read_there}
 
 -- the greatest of a number and two ends is above all three
 
@@ -106,24 +108,19 @@ plain_free g a b narrow free = record {
   spread = λ w j. never_added (sym w ∙ narrow);
 }
 
--- wide registers, of which less is known with one hull more
-pub small_kept : (k m : Small) (a : EachOf Ends) → (m.cells ≡ true → k.cells ≡ true) → (m.held ≡ true → k.held ≡ true) →
-    (m.results ≡ true → k.results ≡ true) → IsSmall k a → IsSmall m a
-small_kept k m a f g h s = (λ e. let u = s.0 (f e) in (u.0, u.1, λ r. u.2 (h r)), λ e. s.1 (g e))
+-- what is held of wide registers that are small
+held_small : (o : Op) (held : Bool) (a : EachOf Ends) → ArePlain a.e → IsHeldBy o held a.c → IsHeldPlain (is_add o) a
+held_small o true a e c = (e, inl c)
+held_small Add false a e c = absurd c
+held_small Max false a e c = (e, inr (refl, inl c))
+held_small Min false a e c = (e, inr (refl, inr c))
 
-held_small : (v : Bool) (a : EachOf Ends) → ArePlain a.e → ArePlain a.c ⊎ IsInfinity a.c → (v ≡ true → ArePlain a.c) → IsHeldPlain v a
-held_small true a e c h = (e, inl (h refl))
-held_small false a e (inl c) h = (e, inl c)
-held_small false a e (inr c) h = (e, inr (refl, c))
-
-pub small_apart : (g : Gluing) (k l : Small) (a b : EachOf Ends) → g.wide ≡ true → g.joins ≡ false → k.cells ≡ true → l.cells ≡ true →
-    (is_add g.result ≡ true → (k.results ≡ true) × (l.results ≡ true)) → (is_add g.result ≡ true → (k.held ≡ true) × (l.held ≡ true)) →
-    IsSmall k a → IsSmall l b → IsPlain g a b
-small_apart g k l a b wide none here there results held s t = record {
-  results = λ e. let r = results e in ((s.0 here).2 r.0, (t.0 there).2 r.1);
+pub small_apart : (g : Gluing) (here there : Bool) (a b : EachOf Ends) → g.wide ≡ true → g.joins ≡ false →
+    IsSmall g.result here a → IsSmall g.result there b → IsPlain g a b
+small_apart g here there a b wide none s t = record {
+  results = λ e. (s.2 e, t.2 e);
   apart = λ n e j. never_added (sym wide ∙ n);
-  held = λ w j. let u = s.0 here in let v = t.0 there in
-      (held_small (is_add g.result) a u.0.0 u.1 (λ e. s.1 (held e).0), held_small (is_add g.result) b v.0.0 v.1 (λ e. t.1 (held e).1));
+  held = λ w j. (held_small g.result here a s.0.0 s.1, held_small g.result there b t.0.0 t.1);
   folded = λ n e j. never_added (sym wide ∙ n);
   spread = λ w j. never_added (sym j ∙ none);
 }
@@ -131,46 +128,71 @@ small_apart g k l a b wide none here there results held s t = record {
 open_greatest : (o : Op) (e : Ends) → o ≡ Max → IsOpenPlain Max e → IsOpenPlain o e
 open_greatest o e is h = subst (λ z. IsOpenPlain z e) (sym is) h
 
-pub small_joined : (g : Gluing) (k l : Small) (a b : EachOf Ends) → g.wide ≡ true → g.joins ≡ true → k.cells ≡ true → l.cells ≡ true →
-    (is_add g.result ≡ true → (k.results ≡ true) × (l.results ≡ true)) → g.fold ≡ Max →
-    (folds_held g.trims g.held_left ≡ true → k.held ≡ true) → (folds_held g.trims g.held_right ≡ true → l.held ≡ true) →
-    IsSmall k a → IsSmall l b → IsPlain g a b
-small_joined g k l a b wide joins here there results greatest left right s t = record {
-  results = λ e. let r = results e in ((s.0 here).2 r.0, (t.0 there).2 r.1);
+-- C is small where it is held
+held_plain : (o : Op) (held : Bool) (c : Ends) → held ≡ true → IsHeldBy o held c → ArePlain c
+held_plain o held c is h = subst (λ z. IsHeldBy o z c) is h
+
+pub small_joined : (g : Gluing) (here there : Bool) (a b : EachOf Ends) → g.wide ≡ true → g.joins ≡ true → g.fold ≡ Max →
+    (folds_held g.trims g.held_left ≡ true → here ≡ true) → (folds_held g.trims g.held_right ≡ true → there ≡ true) →
+    IsSmall g.result here a → IsSmall g.result there b → IsPlain g a b
+small_joined g here there a b wide joins greatest left right s t = record {
+  results = λ e. (s.2 e, t.2 e);
   apart = λ n e j. never_added (sym wide ∙ n);
   held = λ w j. never_added (sym joins ∙ j);
   folded = λ n e j. never_added (sym wide ∙ n);
-  spread = λ w j. (ap is_add greatest, whole (s.0 here).0 (t.0 there).0, away (s.0 here).0 (t.0 there).0);
+  spread = λ w j. (ap is_add greatest, whole s.0 t.0, away s.0 t.0);
 }
   where
     whole : AreRestSmall a → AreRestSmall b → IsFoldPlain Whole g.fold g a b
     whole u v = record {
       left_open = open_greatest g.fold a.d greatest u.1;
       right_open = open_greatest g.fold b.d greatest v.1;
-      left_held = λ h. s.1 (left h);
-      right_held = λ h. t.1 (right h);
+      left_held = λ h. held_plain g.result here a.c (left h) s.1;
+      right_held = λ h. held_plain g.result there b.c (right h) t.1;
     }
 
     away : AreRestSmall a → AreRestSmall b → IsFoldPlain Away Min g a b
     away u v = record { left_open = u.2; right_open = v.2; left_held = λ h. u.0; right_held = λ h. v.0 }
 
 -- hulls of which this is known are taken at each place
-pub all_taken : (n : ℕ) (g : Gluing) (k l : Watched) (left right : List (PackedHull n)) (from count : ℕ) →
-    ((a b : EachOf Ends) → IsKnown k a → IsKnown l b → IsPlain g a b) →
-    AreWatched n k left from count → AreWatched n l right from count → AreTaken n (IsPlain g) left right from count
-all_taken n g k l left right from count plain first second i before here there =
-    plain (side_of (sides n) (lanes_of n (get_or left (from + i) (nothing n)))) (side_of (sides n) (lanes_of n (get_or right (from + i) (nothing n))))
-    (first i before here) (second i before there)
+pub all_taken : (n : ℕ) (o : Op) (g : Gluing) (k l : Watched) (left right : List (PackedHull n)) (from count : ℕ) →
+    g.result ≡ o → ((a b : EachOf Ends) → IsKnown g.result k a → IsKnown g.result l b → IsPlain g a b) →
+    AreWatched n o k left from count → AreWatched n o l right from count → AreTaken n (IsPlain g) left right from count
+all_taken n o g k l left right from count is plain first second i before here there =
+    let a = side_of (sides n) (lanes_of n (get_or left (from + i) (nothing n))) in
+    let b = side_of (sides n) (lanes_of n (get_or right (from + i) (nothing n))) in
+    plain a b (subst (λ z. IsKnown z k a) (sym is) (first i before here)) (subst (λ z. IsKnown z l b) (sym is) (second i before there))
+
+-- so are small ones of which it is known whether C is held
+pub small_taken : (n : ℕ) (o : Op) (here there : Bool) (k l : Watched) (left right : List (PackedHull n)) (from count : ℕ) →
+    k ≡ Wide here → l ≡ Wide there → AreWatched n o k left from count → AreWatched n o l right from count →
+    AreTaken n (λ a b. IsSmall o here a × IsSmall o there b) left right from count
+small_taken n o here there k l left right from count first_is second_is first second i before u v = (
+  subst (λ w. IsKnown o w (side_of (sides n) (lanes_of n (get_or left (from + i) (nothing n))))) first_is (first i before u),
+  subst (λ w. IsKnown o w (side_of (sides n) (lanes_of n (get_or right (from + i) (nothing n))))) second_is (second i before v),
+)
 
 below_or_same : (i k : ℕ) → i < k + 1 → (i < k) ⊎ (i ≡ k)
 below_or_same i k l = grind arith
 
--- what is so of one hull more
-pub all_so_more : (n : ℕ) (Was Is : EachOf Ends → Type 0) (hulls : List (PackedHull n)) (from i : ℕ) (h : PackedHull n) →
-    ((a : EachOf Ends) → Was a → Is a) → IsHullSo n Is h → h ≡ get_or hulls (from + i) (nothing n) →
-    AreAllSo n Was hulls from i → AreAllSo n Is hulls from (i + 1)
-all_so_more n Was Is hulls from i h kept added is before j l =
+-- the hull that was read at one of so many places is packed
+pub hull_there : (n from count i : ℕ) (hulls : List (PackedHull n)) (h : PackedHull n) → ArePlaces n (from + count) hulls → i < count →
+    h ≡ get_or hulls (from + i) h → h ≡ get_or hulls (from + i) (nothing n)
+hull_there n from count i hulls h places before is =
+    let long = places.0 in read_there n hulls (from + i) h is (omega (arith, long, before))
+
+pub packed_there : (n from count i : ℕ) (hulls : List (PackedHull n)) (h : PackedHull n) → ArePlaces n (from + count) hulls → i < count →
+    h ≡ get_or hulls (from + i) h → IsPacked (lane_count n) (lanes_of n h)
+packed_there n from count i hulls h places before is =
+    subst (λ z. IsPacked (lane_count n) (lanes_of n z)) (sym (hull_there n from count i hulls h places before is))
+    (places.1 (from + i) (omega (arith, before)))
+
+-- what holds of one hull more
+pub holds_more : (n : ℕ) (Held Holds : EachOf Ends → Type 0) (hulls : List (PackedHull n)) (from i : ℕ) (h : PackedHull n) →
+    ((a : EachOf Ends) → Held a → Holds a) → HoldsInHull n Holds h → h ≡ get_or hulls (from + i) (nothing n) →
+    HoldsInHulls n Held hulls from i → HoldsInHulls n Holds hulls from (i + 1)
+holds_more n Held Holds hulls from i h kept added is before j l =
     ⊎_elim
     (λ b some. kept (side_of (sides n) (lanes_of n (get_or hulls (from + j) (nothing n)))) (before j b some))
-    (λ e. subst (λ x. IsHullSo n Is (get_or hulls (from + x) (nothing n))) (sym e) (subst (IsHullSo n Is) is added))
+    (λ e. subst (λ x. HoldsInHull n Holds (get_or hulls (from + x) (nothing n))) (sym e) (subst (HoldsInHull n Holds) is added))
     (below_or_same j i l)

@@ -1,5 +1,6 @@
 -- How far out the ends of the registers of many hulls lie, or that they are small.
-use Rattle.std.specs.Prelude.{◌≡◌, ◌⊎◌, ◌<◌, ◌+◌, ◌≤ℤ◌, ℕ, ℤ, true, List, get_or}
+use Rattle.std.specs.Prelude.{◌≡◌, ◌<◌, ◌+◌, ◌≤ℤ◌, ℕ, ℤ, Bool, true, false, List, get_or}
+use Rattle.ts_base.specs.declared.op.Op.{Op}
 use Rattle.ts_base.specs.declared.op.Op.TheVariants.{Max, Min}
 use Rattle.ts_automaton.specs.Registers.{EachOf, each}
 use Rattle.ts_row.specs.Rows.{lanes_of, nothing}
@@ -10,11 +11,10 @@ use Rattle.ts_sweep.specs.Lanes.{some_lanes}
 use Rattle.ts_sweep.specs.Packed.{ends}
 use Rattle.ts_sweep.specs.Sides.{sides}
 use Rattle.ts_meet.specs.declared.peaks.Peaks.{Peaks}
-use Rattle.ts_meet.specs.declared.small.Small.{Small}
 use Rattle.ts_meet.specs.declared.column.Watched.{Watched}
 use Rattle.ts_meet.specs.declared.column.Watched.TheVariants.{Nothing, Narrow, Wide}
-use Rattle.ts_meet.specs.Joints.{IsOpenPlain}
-use Rattle.ts_meet.specs.Sides.{IsInfinity, side_of}
+use Rattle.ts_meet.specs.Joints.{IsOpenPlain, is_add}
+use Rattle.ts_meet.specs.Sides.{IsNeutral, side_of}
 
 -- what is known of a column that isn't there
 abbrev pub unwatched : Watched
@@ -39,32 +39,37 @@ IsUnder k a = IsBelow a.c k.c × AreBelow a.d k.d × IsBelow a.r k.r
 abbrev pub AreRestSmall : EachOf Ends → Type 0
 AreRestSmall a = ArePlain a.e × IsOpenPlain Max a.d × IsOpenPlain Min a.f
 
--- so are wide registers of which this is known
-abbrev pub IsSmall : Small → EachOf Ends → Type 0
-IsSmall k a =
-    (k.cells ≡ true → AreRestSmall a × (ArePlain a.c ⊎ IsInfinity a.c) × (k.results ≡ true → ArePlain a.r))
-    × (k.held ≡ true → ArePlain a.c)
+-- C is small where it is held, and otherwise the infinity that the operator on results passes over
+abbrev pub IsHeldBy : Op → Bool → Ends → Type 0
+IsHeldBy o true c = ArePlain c
+IsHeldBy o false c = IsNeutral o c
 
-abbrev pub IsKnown : Watched → EachOf Ends → Type 0
-IsKnown Nothing a = Unit {0}
-IsKnown (Narrow k) a = IsUnder k a
-IsKnown (Wide k) a = IsSmall k a
+-- wide registers are small, but for C where it isn't held, and for R where results aren't added
+abbrev pub IsSmall : Op → Bool → EachOf Ends → Type 0
+IsSmall o held a = AreRestSmall a × IsHeldBy o held a.c × (is_add o ≡ true → ArePlain a.r)
 
--- the registers of a hull are so, if they lie in it; those of the hulls at so many places from one on
-abbrev pub IsHullSo : (n : ℕ) → (EachOf Ends → Type 0) → PackedHull n → Type 0
-IsHullSo n Is h = some_lanes (lanes_of n h) ≡ true → Is (side_of (sides n) (lanes_of n h))
+-- this is known of registers whose results an operator joins
+abbrev pub IsKnown : Op → Watched → EachOf Ends → Type 0
+IsKnown o Nothing a = Unit {0}
+IsKnown o (Narrow k) a = IsUnder k a
+IsKnown o (Wide held) a = IsSmall o held a
 
-abbrev pub AreAllSo : (n : ℕ) → (EachOf Ends → Type 0) → List (PackedHull n) → (from count : ℕ) → Type 0
-AreAllSo n Is hulls from count = (i : ℕ) → i < count → IsHullSo n Is (get_or hulls (from + i) (nothing n))
+-- it holds of the registers of a hull, if they lie in it; of those of the hulls at so many places from one on
+abbrev pub HoldsInHull : (n : ℕ) → (EachOf Ends → Type 0) → PackedHull n → Type 0
+HoldsInHull n Holds h = some_lanes (lanes_of n h) ≡ true → Holds (side_of (sides n) (lanes_of n h))
+
+abbrev pub HoldsInHulls : (n : ℕ) → (EachOf Ends → Type 0) → List (PackedHull n) → (from count : ℕ) → Type 0
+HoldsInHulls n Holds hulls from count =
+    (i : ℕ) → i < count → HoldsInHull n Holds (get_or hulls (from + i) (nothing n))
 
 abbrev pub AreAllUnder : (n : ℕ) → Peaks → List (PackedHull n) → (from count : ℕ) → Type 0
-AreAllUnder n k = AreAllSo n (IsUnder k)
+AreAllUnder n k = HoldsInHulls n (IsUnder k)
 
-abbrev pub AreAllSmall : (n : ℕ) → Small → List (PackedHull n) → (from count : ℕ) → Type 0
-AreAllSmall n k = AreAllSo n (IsSmall k)
+abbrev pub AreAllSmall : (n : ℕ) → Op → Bool → List (PackedHull n) → (from count : ℕ) → Type 0
+AreAllSmall n o held = HoldsInHulls n (IsSmall o held)
 
-abbrev pub AreWatched : (n : ℕ) → Watched → List (PackedHull n) → (from count : ℕ) → Type 0
-AreWatched n k = AreAllSo n (IsKnown k)
+abbrev pub AreWatched : (n : ℕ) → Op → Watched → List (PackedHull n) → (from count : ℕ) → Type 0
+AreWatched n o k = HoldsInHulls n (IsKnown o k)
 
 -- what a way to glue takes, if registers lie in both hulls; so at so many places from one on
 abbrev pub IsTaken : (n : ℕ) → (EachOf Ends → EachOf Ends → Type 0) → (left right : PackedHull n) → Type 0

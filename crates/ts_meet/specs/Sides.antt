@@ -3,6 +3,7 @@ use Rattle.std.specs.Prelude.{◌≡◌, ◌⊎◌, ℕ, ℤ, Bool, true, false,
 use Rattle.std.specs.Int.{int_max, int_min}
 use Rattle.ts_base.specs.declared.ext.Ext.{Ext}
 use Rattle.ts_base.specs.declared.span.Span.{Span}
+use Rattle.ts_base.specs.declared.op.Op.{Op}
 use Rattle.ts_base.specs.declared.op.Op.TheVariants.{Add, Max, Min}
 use Rattle.ts_base.specs.Spans.{has_some, none_span, one_span}
 use Rattle.ts_automaton.specs.declared.state.Mark.{Mark}
@@ -59,14 +60,25 @@ AreSomeEnds s = IsSomeEnds s.c × IsSomeEnds s.e × IsSomeEnds s.d × IsSomeEnds
 abbrev pub ArePackOf : EachOf Ends → EachOf Span → Type 0
 ArePackOf = Each IsPackOf
 
--- an end is infinite outwards; both ends are one infinity
+-- an end is infinite outwards
 abbrev pub is_far : Ends → Bool
 is_far e = int_le (pos 9223372036854775807) (int_max e.below e.above)
 
+-- both ends are minus infinity; both are infinity; both are one of them
+abbrev pub IsLowest : Ends → Type 0
+IsLowest e = (e.below ≡ pos 9223372036854775807) × (e.above ≡ negsuc 9223372036854775806)
+
+abbrev pub IsHighest : Ends → Type 0
+IsHighest e = (e.below ≡ negsuc 9223372036854775806) × (e.above ≡ pos 9223372036854775807)
+
 abbrev pub IsInfinity : Ends → Type 0
-IsInfinity e =
-    ((e.below ≡ pos 9223372036854775807) × (e.above ≡ negsuc 9223372036854775806))
-    ⊎ ((e.below ≡ negsuc 9223372036854775806) × (e.above ≡ pos 9223372036854775807))
+IsInfinity e = IsLowest e ⊎ IsHighest e
+
+-- both ends are the infinity that an operator passes over
+abbrev pub IsNeutral : Op → Ends → Type 0
+IsNeutral Add e = ⊥
+IsNeutral Max e = IsLowest e
+IsNeutral Min e = IsHighest e
 
 -- the first less the second: one infinity stays
 abbrev pub kept_less : Ends → Ends → Ends

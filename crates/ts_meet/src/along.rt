@@ -22,7 +22,7 @@ use crate::fold::{CELLS, GREATEST, LEAST, SAME, SUM, ZERO, numbered, numbered_ma
 use crate::gluing::{Gluing, is_greatest};
 use crate::joints::{Joints, STATES};
 use crate::marked::{hull_of_both, joined, marked_by, nothing, span_of};
-use crate::seam::{Any, Apart, Between, Both, PlainApart, Seam, Through};
+use crate::seam::{Any, Apart, Between, Both, PlainApart, Seam, SmallApart, Through};
 use ts_automaton::{Mark, Op};
 use ts_base::Span;
 use ts_row::RowView;
@@ -114,7 +114,7 @@ fn with_columns<const O: u8, const N: usize>(
     requires left { ArePlaces N (from + length values.now) left.now }
     requires right { HavePlaces N joints.now.right_states (from + length values.now) right.now }
     requires seconds { (r : ℕ) → r < joints.now.right_states →
-        AreWatched N (get_or seconds.now r unwatched) (get_or right.now r []) from (length values.now) }
+        AreWatched N (numbered O) (get_or seconds.now r unwatched) (get_or right.now r []) from (length values.now) }
     requires values { AreCellValues values.now }
     ensures { (p : Pair) (so_far : ℕ → Span) → AreJoints p joints.now →
         StandFor hull (hull_over so_far (length values.now)) → StandFor result (hull_over
@@ -165,8 +165,8 @@ fn along_pair<const O: u8, const N: usize>(
     requires other { r < joints.now.right_states }
     requires left { ArePlaces N (from + length values.now) left.now }
     requires right { ArePlaces N (from + length values.now) right.now }
-    requires first { AreWatched N first left.now from (length values.now) }
-    requires second { AreWatched N second right.now from (length values.now) }
+    requires first { AreWatched N (numbered O) first left.now from (length values.now) }
+    requires second { AreWatched N (numbered O) second right.now from (length values.now) }
     requires values { AreCellValues values.now }
     ensures { (p : Pair) → AreJoints p joints.now → StandFor result
         (pair_along N p q r left.now right.now from values.now cells (length values.now)) }
@@ -196,22 +196,22 @@ fn along_apart<const O: u8, const N: usize>(
     requires operator { numbered O ≡ joints.now.result }
     requires left { ArePlaces N (from + length values.now) left.now }
     requires right { ArePlaces N (from + length values.now) right.now }
-    requires first { AreWatched N first left.now from (length values.now) }
-    requires second { AreWatched N second right.now from (length values.now) }
+    requires first { AreWatched N (numbered O) first left.now from (length values.now) }
+    requires second { AreWatched N (numbered O) second right.now from (length values.now) }
     requires values { AreCellValues values.now }
     ensures { (p : Pair) (q r : ℕ) → AreJoints p joints.now → is_join p.table q r ≡ false → StandFor result
         (pair_along N p q r left.now right.now from values.now cells (length values.now)) }
 {
     if joints.wide {
-        along_apart_by::<O, true, N>(joints, first, second, left, right, values, from, cells)
+        along_wide::<O, N>(joints, first, second, left, right, values, from, cells)
     } else {
-        along_apart_by::<O, false, N>(joints, first, second, left, right, values, from, cells)
+        along_narrow::<O, N>(joints, first, second, left, right, values, from, cells)
     }
 }
 
-/// The hull where no occurrence goes on. `WIDE` is whether the automata are wide.
+/// The hull where no occurrence of narrow automata goes on.
 #[inline(always)]
-fn along_apart_by<const O: u8, const WIDE: bool, const N: usize>(
+fn along_narrow<const O: u8, const N: usize>(
     joints: &Joints,
     first: Watched,
     second: Watched,
@@ -224,22 +224,72 @@ fn along_apart_by<const O: u8, const WIDE: bool, const N: usize>(
     requires registers { 6 ≤ lane_count N }
     requires alone { (sides N ≡ BothEnds) ⊎ (joints.now.wide ≡ false) }
     requires operator { numbered O ≡ joints.now.result }
-    requires width { WIDE ≡ joints.now.wide }
+    requires narrow { joints.now.wide ≡ false }
     requires left { ArePlaces N (from + length values.now) left.now }
     requires right { ArePlaces N (from + length values.now) right.now }
-    requires first { AreWatched N first left.now from (length values.now) }
-    requires second { AreWatched N second right.now from (length values.now) }
+    requires first { AreWatched N (numbered O) first left.now from (length values.now) }
+    requires second { AreWatched N (numbered O) second right.now from (length values.now) }
     requires values { AreCellValues values.now }
     ensures { (p : Pair) (q r : ℕ) → AreJoints p joints.now → is_join p.table q r ≡ false → StandFor result
         (pair_along N p q r left.now right.now from values.now cells (length values.now)) }
 {
-    let gluing = Gluing::apart(numbered(O), WIDE);
+    let gluing = Gluing::apart(numbered(O), false);
     if gluing.is_plain_within(first, second) {
-        let seam = PlainApart::<O, WIDE>;
+        let seam = PlainApart::<O>;
         along_glued(seam, joints, gluing, left, right, values, from, cells)
     } else {
-        let seam = Apart::<O, WIDE>;
+        let seam = Apart::<O, false>;
         along_glued(seam, joints, gluing, left, right, values, from, cells)
+    }
+}
+
+/// The hull where no occurrence of wide automata goes on: if their registers are small, it is a constant of the loop
+/// whether C is held on each side.
+#[inline(always)]
+fn along_wide<const O: u8, const N: usize>(
+    joints: &Joints,
+    first: Watched,
+    second: Watched,
+    left: &[PackedHull<N>],
+    right: &[PackedHull<N>],
+    values: &[i64],
+    from: usize,
+    cells: u32,
+) -> Ends
+    requires registers { 6 ≤ lane_count N }
+    requires alone { (sides N ≡ BothEnds) ⊎ (joints.now.wide ≡ false) }
+    requires operator { numbered O ≡ joints.now.result }
+    requires wide { joints.now.wide ≡ true }
+    requires left { ArePlaces N (from + length values.now) left.now }
+    requires right { ArePlaces N (from + length values.now) right.now }
+    requires first { AreWatched N (numbered O) first left.now from (length values.now) }
+    requires second { AreWatched N (numbered O) second right.now from (length values.now) }
+    requires values { AreCellValues values.now }
+    ensures { (p : Pair) (q r : ℕ) → AreJoints p joints.now → is_join p.table q r ≡ false → StandFor result
+        (pair_along N p q r left.now right.now from values.now cells (length values.now)) }
+{
+    let gluing = Gluing::apart(numbered(O), true);
+    match (first, second) {
+        (Watched::Wide(true), Watched::Wide(true)) => {
+            let seam = SmallApart::<O, true, true>;
+            along_glued(seam, joints, gluing, left, right, values, from, cells)
+        }
+        (Watched::Wide(true), Watched::Wide(false)) => {
+            let seam = SmallApart::<O, true, false>;
+            along_glued(seam, joints, gluing, left, right, values, from, cells)
+        }
+        (Watched::Wide(false), Watched::Wide(true)) => {
+            let seam = SmallApart::<O, false, true>;
+            along_glued(seam, joints, gluing, left, right, values, from, cells)
+        }
+        (Watched::Wide(false), Watched::Wide(false)) => {
+            let seam = SmallApart::<O, false, false>;
+            along_glued(seam, joints, gluing, left, right, values, from, cells)
+        }
+        _ => {
+            let seam = Apart::<O, true>;
+            along_glued(seam, joints, gluing, left, right, values, from, cells)
+        }
     }
 }
 
@@ -264,8 +314,8 @@ fn along_joined<const O: u8, const N: usize>(
     requires other { r < joints.now.right_states }
     requires left { ArePlaces N (from + length values.now) left.now }
     requires right { ArePlaces N (from + length values.now) right.now }
-    requires first { AreWatched N first left.now from (length values.now) }
-    requires second { AreWatched N second right.now from (length values.now) }
+    requires first { AreWatched N (numbered O) first left.now from (length values.now) }
+    requires second { AreWatched N (numbered O) second right.now from (length values.now) }
     requires values { AreCellValues values.now }
     ensures { (p : Pair) → AreJoints p joints.now → is_join p.table q r ≡ true → StandFor result
         (pair_along N p q r left.now right.now from values.now cells (length values.now)) }
@@ -310,8 +360,8 @@ fn along_spread<const O: u8, const N: usize>(
     requires other { r < joints.now.right_states }
     requires left { ArePlaces N (from + length values.now) left.now }
     requires right { ArePlaces N (from + length values.now) right.now }
-    requires first { AreWatched N first left.now from (length values.now) }
-    requires second { AreWatched N second right.now from (length values.now) }
+    requires first { AreWatched N (numbered O) first left.now from (length values.now) }
+    requires second { AreWatched N (numbered O) second right.now from (length values.now) }
     requires values { AreCellValues values.now }
     ensures { (p : Pair) → AreJoints p joints.now → is_join p.table q r ≡ true → StandFor result
         (pair_along N p q r left.now right.now from values.now cells (length values.now)) }
@@ -353,8 +403,8 @@ fn along_folded<const O: u8, const F: u8, const N: usize>(
     requires other { r < joints.now.right_states }
     requires left { ArePlaces N (from + length values.now) left.now }
     requires right { ArePlaces N (from + length values.now) right.now }
-    requires first { AreWatched N first left.now from (length values.now) }
-    requires second { AreWatched N second right.now from (length values.now) }
+    requires first { AreWatched N (numbered O) first left.now from (length values.now) }
+    requires second { AreWatched N (numbered O) second right.now from (length values.now) }
     requires values { AreCellValues values.now }
     ensures { (p : Pair) → AreJoints p joints.now → is_join p.table q r ≡ true → StandFor result
         (pair_along N p q r left.now right.now from values.now cells (length values.now)) }

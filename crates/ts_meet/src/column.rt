@@ -1,23 +1,24 @@
 //! What is known of the ends of the registers in a column, found once for all values: peaks of narrow registers, or
-//! that wide ones are small.
+//! that wide ones are small, and whether C is held.
 
 ghost use Rattle.std.specs.Prelude.{◌<◌, ◌+◌, ◌≤◌, ℕ, [], get_or};
+ghost use Rattle.ts_meet.specs.Joints.{numbered};
 ghost use Rattle.ts_meet.specs.Peaks.{AreWatched, unwatched};
 ghost use Rattle.ts_meet.specs.Settled.{ArePlaces, HavePlaces};
 ghost use Rattle.ts_sweep.specs.Sides.{lane_count};
 
 use crate::joints::{Joints, STATES};
 use crate::peaks::Peaks;
-use crate::small::Small;
+use crate::small::are_small;
 use ts_row::RowView;
 use ts_sweep::packed::PackedHull;
 
-/// What is known of the ends in a column.
+/// What is known of the ends in a column. `Wide` has whether C is held there.
 #[derive(Clone, Copy)]
 pub(crate) enum Watched {
     Nothing,
     Narrow(Peaks),
-    Wide(Small),
+    Wide(bool),
 }
 
 impl Watched {
@@ -31,12 +32,31 @@ impl Watched {
     ) -> Watched
         requires registers { 6 ≤ lane_count N }
         requires hulls { ArePlaces N (from + count) hulls.now }
-        ensures { AreWatched N result hulls.now from count }
+        ensures { AreWatched N (numbered O) result hulls.now from count }
     {
         if wide {
-            Watched::Wide(Small::over::<O, N>(hulls, from, count))
+            Watched::of_wide::<O, N>(hulls, from, count)
         } else if needed {
             Watched::Narrow(Peaks::over::<O, N>(hulls, from, count))
+        } else {
+            Watched::Nothing
+        }
+    }
+
+    /// What is known of wide hulls at these places.
+    fn of_wide<const O: u8, const N: usize>(
+        hulls: &[PackedHull<N>],
+        from: usize,
+        count: usize,
+    ) -> Watched
+        requires registers { 6 ≤ lane_count N }
+        requires hulls { ArePlaces N (from + count) hulls.now }
+        ensures { AreWatched N (numbered O) result hulls.now from count }
+    {
+        if are_small::<O, true, N>(hulls, from, count) {
+            Watched::Wide(true)
+        } else if are_small::<O, false, N>(hulls, from, count) {
+            Watched::Wide(false)
         } else {
             Watched::Nothing
         }
@@ -56,7 +76,7 @@ pub(crate) fn watched_in<const O: u8, const N: usize>(
     requires few { states ≤ 8 }
     requires row { HavePlaces N states (from + count) row.now }
     ensures { (q : ℕ) → q < states →
-        AreWatched N (get_or result q unwatched) (get_or row.now q []) from count }
+        AreWatched N (numbered O) (get_or result q unwatched) (get_or row.now q []) from count }
 {
     let mut all = [Watched::Nothing; STATES];
     for q in 0..states {

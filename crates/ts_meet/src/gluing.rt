@@ -21,8 +21,8 @@ ghost use Rattle.ts_meet.specs.Joints.{
   told_joined,
   with_worth,
 };
-ghost use Rattle.ts_meet.specs.Peaks.{IsKnown, IsSmall, IsUnder};
-ghost use Rattle.ts_meet.specs.Sides.{TakesPlain, ends_in, plain_values, pointed_spans, side_of};
+ghost use Rattle.ts_meet.specs.Peaks.{IsHeldBy, IsKnown, IsSmall, IsUnder};
+ghost use Rattle.ts_meet.specs.Sides.{AreSomeEnds, TakesPlain, ends_in, plain_values, pointed_spans, side_of};
 ghost use Rattle.ts_sweep.specs.declared.packed.Ends.{Ends};
 ghost use Rattle.ts_row.specs.Rows.{lanes_of};
 ghost use Rattle.ts_sweep.specs.Fronts.{ArePlain};
@@ -32,7 +32,6 @@ ghost use Rattle.ts_sweep.specs.Sides.{BothEnds, lane_count, seen, sides};
 use crate::column::Watched;
 use crate::peaks::Peaks;
 use crate::side::{Side, are_plain, is_open_plain, shown};
-use crate::small::Small;
 use crate::sums::{Clamped, Near, Plain, Sums, is_infinity};
 use ts_automaton::{Op, Operator};
 use ts_glue::Part;
@@ -219,20 +218,92 @@ impl Gluing {
             (pointed_spans (sides N) (spans_of (unpacked (lanes_of N left.now))))
             (pointed_spans (sides N) (spans_of (unpacked (lanes_of N right.now)))) (apart self.wide self.result)) }
     {
-        let (first, second) = (Side::of(left), Side::of(right));
-        if self.is_spread_sum() {
-            self.answers::<Near>(first, second)
-        } else {
-            self.answers::<Plain>(first, second)
-        }
+        self.answers::<Plain>(Side::of(left), Side::of(right))
     }
 
-    /// Whether what wide automata have held is added.
+    /// The glued ends of two hulls of wide automata before the mark, where no occurrence goes on, all registers are
+    /// small, and it is told on each side whether C is held.
     #[inline(always)]
-    fn is_spread_sum(self) -> bool
-        ensures { result ≡ true → (self.wide ≡ true) × (is_add self.result ≡ true) }
+    pub(crate) fn glued_held<const N: usize>(
+        self,
+        here: bool,
+        there: bool,
+        left: &PackedHull<N>,
+        right: &PackedHull<N>,
+    ) -> Ends
+        requires registers { 6 ≤ lane_count N }
+        requires alone { (sides N ≡ BothEnds) ⊎ (self.wide ≡ false) }
+        requires left { AreSome (lane_count N) (lanes_of N left.now) }
+        requires right { AreSome (lane_count N) (lanes_of N right.now) }
+        requires worth { IsCellValue self.worth }
+        requires apart { self.joins ≡ false }
+        requires wide { self.wide ≡ true }
+        requires small_left { IsSmall self.result here (side_of (sides N) (lanes_of N left.now)) }
+        requires small_right { IsSmall self.result there (side_of (sides N) (lanes_of N right.now)) }
+        ensures { IsPackOf result (seen (sides N) (glue_in sealed_spans
+            (spans_of (unpacked (lanes_of N left.now))) (spans_of (unpacked (lanes_of N right.now)))
+            (expression self))) }
     {
-        self.wide && is_add(self.result)
+        shown::<N>(self.held_apart(here, there, left, right))
+    }
+
+    /// The glued ends of two hulls of wide automata before the mark, where no occurrence goes on, with the sums of the
+    /// lanes.
+    #[inline(always)]
+    fn held_apart<const N: usize>(
+        self,
+        here: bool,
+        there: bool,
+        left: &PackedHull<N>,
+        right: &PackedHull<N>,
+    ) -> Ends
+        requires registers { 6 ≤ lane_count N }
+        requires left { AreSome (lane_count N) (lanes_of N left.now) }
+        requires right { AreSome (lane_count N) (lanes_of N right.now) }
+        requires worth { IsCellValue self.worth }
+        requires apart { self.joins ≡ false }
+        requires wide { self.wide ≡ true }
+        requires small_left { IsSmall self.result here (side_of (sides N) (lanes_of N left.now)) }
+        requires small_right { IsSmall self.result there (side_of (sides N) (lanes_of N right.now)) }
+        ensures { IsPackOf result (glue_in sealed_spans
+            (pointed_spans (sides N) (spans_of (unpacked (lanes_of N left.now))))
+            (pointed_spans (sides N) (spans_of (unpacked (lanes_of N right.now)))) (apart self.wide self.result)) }
+    {
+        self.answers_held(here, there, Side::of(left), Side::of(right))
+    }
+
+    /// The answers of both runs of wide automata joined, before the mark, where it is told whether C is held.
+    #[inline(always)]
+    fn answers_held(self, here: bool, there: bool, left: Side, right: Side) -> Ends
+        requires takes { GlueTakes TakesPlain plain_values (ends_in left) (ends_in right) (apart true self.result) }
+        requires some_left { AreSomeEnds (ends_in left) }
+        requires some_right { AreSomeEnds (ends_in right) }
+        requires here { IsHeldBy self.result here left.c }
+        requires there { IsHeldBy self.result there right.c }
+        ensures { result ≡ glue_in plain_values (ends_in left) (ends_in right) (apart true self.result) }
+    {
+        Plain::joined(
+            Operator::Fold(self.result),
+            self.answer_held(here, left),
+            self.answer_held(there, right),
+        )
+    }
+
+    /// The answer of a run of a wide automaton, before the mark, where it is told whether C is held: if it isn't, that
+    /// is R.
+    #[inline(always)]
+    fn answer_held(self, held: bool, side: Side) -> Ends
+        requires takes { Takes TakesPlain plain_values (ends_in side) (pos 0) (pos 0) (result_of true self.result) }
+        requires some { AreSomeEnds (ends_in side) }
+        requires held { IsHeldBy self.result held side.c }
+        ensures { result ≡ value_in plain_values (ends_in side) (pos 0) (pos 0) (result_of true self.result) }
+    {
+        if held {
+            let spread = Near::joined(Operator::Sub, side.c, side.e);
+            Plain::joined(Operator::Fold(self.result), side.r, spread)
+        } else {
+            side.r
+        }
     }
 
     /// The glued ends of two hulls before the mark, where one occurrence goes on that leaves a cell out at its end.
@@ -620,15 +691,17 @@ impl Gluing {
         S::number(opposite(self.worth))
     }
 
-    /// Whether all numbers that are added are small between hulls of which this is known.
+    /// Whether all numbers that are added are small between hulls of which this is known. It is false between wide
+    /// automata where no occurrence goes on: there it is told whether C is held.
     pub(crate) fn is_plain_within(self, left: Watched, right: Watched) -> bool
-        ensures { (a b : EachOf Ends) → result ≡ true → IsKnown left a → IsKnown right b → IsPlain self a b }
+        ensures { (a b : EachOf Ends) → result ≡ true →
+            IsKnown self.result left a → IsKnown self.result right b → IsPlain self a b }
     {
         match (left, right) {
             (Watched::Narrow(first), Watched::Narrow(second)) => !self.wide
                 && self.is_plain_under(first, second),
-            (Watched::Wide(first), Watched::Wide(second)) => self.wide
-                && self.is_plain_small(first, second),
+            (Watched::Wide(here), Watched::Wide(there)) => self.wide
+                && self.is_spread_small(here, there),
             _ => !self.wide && self.adds_nothing(),
         }
     }
@@ -654,32 +727,17 @@ impl Gluing {
         }
     }
 
-    /// Whether all numbers that are added or taken away are small between hulls of wide automata of which these
-    /// registers are.
-    fn is_plain_small(self, left: Small, right: Small) -> bool
-        requires wide { self.wide ≡ true }
-        ensures { (a b : EachOf Ends) → result ≡ true → IsSmall left a → IsSmall right b → IsPlain self a b }
+    /// Whether one occurrence goes on between small hulls of wide automata, the greatest is folded, and C is held on each
+    /// side on which it is folded: then all numbers that are added or taken away are small.
+    fn is_spread_small(self, here: bool, there: bool) -> bool
+        requires { self.wide ≡ true }
+        ensures { (a b : EachOf Ends) → result ≡ true →
+            IsSmall self.result here a → IsSmall self.result there b → IsPlain self a b }
     {
-        let adds = is_add(self.result);
-        if !(left.cells && right.cells && are_if(adds, left.results, right.results)) {
-            return false;
-        }
-        if self.joins {
-            self.is_spread_small(left, right)
-        } else {
-            are_if(adds, left.held, right.held)
-        }
-    }
-
-    /// Whether the greatest is folded, and C is small on each side on which it is folded.
-    #[inline(always)]
-    fn is_spread_small(self, left: Small, right: Small) -> bool
-        ensures { result ≡ true → (self.fold ≡ Max) × (folds_held self.trims self.held_left ≡ true → left.held ≡ true)
-            × (folds_held self.trims self.held_right ≡ true → right.held ≡ true) }
-    {
-        is_greatest(self.fold)
-            && (!folds_held(self.trims, self.held_left) || left.held)
-            && (!folds_held(self.trims, self.held_right) || right.held)
+        self.joins
+            && is_greatest(self.fold)
+            && (!folds_held(self.trims, self.held_left) || here)
+            && (!folds_held(self.trims, self.held_right) || there)
     }
 
     /// Whether all numbers that are added or taken away are small, where no occurrence goes on.
@@ -818,14 +876,6 @@ pub(crate) fn is_add(op: Op) -> bool
         Op::Add => true,
         Op::Max | Op::Min => false,
     }
-}
-
-/// Whether both are so, if they need to be.
-#[inline(always)]
-fn are_if(needed: bool, left: bool, right: bool) -> bool
-    ensures { result ≡ true → needed ≡ true → (left ≡ true) × (right ≡ true) }
-{
-    !needed || left && right
 }
 
 /// Whether an operator is the greatest.

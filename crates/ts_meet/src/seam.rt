@@ -49,9 +49,14 @@ pub(crate) trait Seam<const N: usize>: Copy {
 #[derive(Clone, Copy)]
 pub(crate) struct Apart<const O: u8, const WIDE: bool>;
 
-/// No occurrence goes on, and all numbers that are added or taken away are small.
+/// No occurrence of narrow automata goes on, and all numbers that are added are small.
 #[derive(Clone, Copy)]
-pub(crate) struct PlainApart<const O: u8, const WIDE: bool>;
+pub(crate) struct PlainApart<const O: u8>;
+
+/// No occurrence of wide automata goes on, and their registers are small. `HERE` and `THERE` are whether C is held on
+/// the left and on the right.
+#[derive(Clone, Copy)]
+pub(crate) struct SmallApart<const O: u8, const HERE: bool, const THERE: bool>;
 
 /// One occurrence of narrow automata goes on, and leaves a cell out at its end: the cell lies between both sides. All
 /// numbers that are added are small.
@@ -91,12 +96,12 @@ impl<const O: u8, const WIDE: bool, const N: usize> Seam<N> for Apart<O, WIDE> {
     }
 }
 
-impl<const O: u8, const WIDE: bool, const N: usize> Seam<N> for PlainApart<O, WIDE> {
+impl<const O: u8, const N: usize> Seam<N> for PlainApart<O> {
     ghost use Rattle.std.specs.Prelude.{◌≡◌, false};
     ghost use Rattle.ts_meet.specs.Joints.{IsPlain, numbered};
     ghost use Rattle.ts_meet.specs.SideLaws.{plain_with_worth};
 
-    ghost fits = { λ g. (g.joins ≡ false) × (g.result ≡ numbered O) × (g.wide ≡ WIDE) };
+    ghost fits = { λ g. (g.joins ≡ false) × (g.result ≡ numbered O) × (g.wide ≡ false) };
 
     ghost takes = { λ g a b. IsPlain g a b };
 
@@ -106,8 +111,29 @@ impl<const O: u8, const WIDE: bool, const N: usize> Seam<N> for PlainApart<O, WI
 
     #[inline(always)]
     fn glued(self, gluing: Gluing, left: &PackedHull<N>, right: &PackedHull<N>) -> Ends {
-        let known = gluing.known(numbered(O), gluing.fold, WIDE);
+        let known = gluing.known(numbered(O), gluing.fold, false);
         known.glued_plainly(left, right)
+    }
+}
+
+impl<const O: u8, const HERE: bool, const THERE: bool, const N: usize> Seam<N>
+    for SmallApart<O, HERE, THERE> {
+    ghost use Rattle.std.specs.Prelude.{◌≡◌, true, false};
+    ghost use Rattle.ts_meet.specs.Joints.{numbered};
+    ghost use Rattle.ts_meet.specs.Peaks.{IsSmall};
+
+    ghost fits = { λ g. (g.joins ≡ false) × (g.result ≡ numbered O) × (g.wide ≡ true) };
+
+    ghost takes = { λ g a b. IsSmall (numbered O) HERE a × IsSmall (numbered O) THERE b };
+
+    ghost any_worth = { λ g d h. h };
+
+    ghost takes_any = { λ g d a b h. h };
+
+    #[inline(always)]
+    fn glued(self, gluing: Gluing, left: &PackedHull<N>, right: &PackedHull<N>) -> Ends {
+        let known = gluing.known(numbered(O), gluing.fold, true);
+        known.glued_held(HERE, THERE, left, right)
     }
 }
 

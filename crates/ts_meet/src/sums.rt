@@ -1,9 +1,18 @@
 //! Operators on ends: with the sums of the lanes, which small numbers allow, or with clamped sums of any numbers.
 
-ghost use Rattle.std.specs.Prelude.{◌≡◌, negsuc, pos, true};
+ghost use Rattle.std.specs.Prelude.{◌≡◌, true};
 ghost use Rattle.ts_automaton.specs.declared.expr.Operator.TheVariants.{Sub};
 ghost use Rattle.ts_base.specs.Limits.{IsCellValue};
-ghost use Rattle.ts_meet.specs.Sides.{IsInfinity, TakesNear, TakesPlain, is_far, plain_by};
+ghost use Rattle.ts_meet.specs.Sides.{
+  IsHighest,
+  IsInfinity,
+  IsLowest,
+  IsNeutral,
+  TakesNear,
+  TakesPlain,
+  is_far,
+  plain_by,
+};
 ghost use Rattle.ts_sweep.specs.Operators.{crossed};
 ghost use Rattle.ts_sweep.specs.Packed.{number_ends};
 
@@ -119,10 +128,22 @@ pub(crate) fn is_infinity(e: Ends) -> bool
     is_low(e) || is_high(e)
 }
 
+/// Whether both ends are the infinity that an operator passes over.
+#[inline(always)]
+pub(crate) fn is_neutral(operator: Op, e: Ends) -> bool
+    ensures { result ≡ true → IsNeutral operator e }
+{
+    match operator {
+        Op::Add => false,
+        Op::Max => is_low(e),
+        Op::Min => is_high(e),
+    }
+}
+
 /// Whether both ends are minus infinity.
 #[inline(always)]
 fn is_low(e: Ends) -> bool
-    ensures { result ≡ true → (e.below ≡ pos 9223372036854775807) × (e.above ≡ negsuc 9223372036854775806) }
+    ensures { result ≡ true → IsLowest e }
 {
     e.below == i64::MAX && e.above == -i64::MAX
 }
@@ -130,7 +151,7 @@ fn is_low(e: Ends) -> bool
 /// Whether both ends are infinity.
 #[inline(always)]
 fn is_high(e: Ends) -> bool
-    ensures { result ≡ true → (e.below ≡ negsuc 9223372036854775806) × (e.above ≡ pos 9223372036854775807) }
+    ensures { result ≡ true → IsHighest e }
 {
     e.below == -i64::MAX && e.above == i64::MAX
 }

@@ -1,5 +1,6 @@
 use Rattle.std.proofs.Common.{◌≡◌, ◌+◌, ◌<◌, ℕ, [], get_or, length, sym, ap, subst, ◌∙◌, arith, rules}
 use Rattle.ts_meet.specs.Along.{between_along, hull_over, with_along}
+use Rattle.ts_meet.specs.Joints.{numbered}
 use Rattle.ts_meet.specs.Peaks.{AreWatched, unwatched}
 use Rattle.ts_meet.specs.Settled.{ArePlaces}
 use Rattle.ts_meet.specs.Sides.{StandFor}
@@ -17,7 +18,7 @@ with_columns-hull-requires g c =
     let below : c.loop-q.q < c.args.joints.now.left_states = omega (arith, c.loop-q-test.true, c.loop-q.auto.q-end) in
     let places = subst (ArePlaces g.row.N (c.args.from + length c.args.values.now)) (sym c.column.ensures) (c.requires.left.places c.loop-q.q below) in
     let given = c.requires in
-    let seconds : (r : ℕ) → r < c.args.joints.now.right_states → AreWatched g.row.N
+    let seconds : (r : ℕ) → r < c.args.joints.now.right_states → AreWatched g.row.N (numbered g.row.O)
     (get_or c.watched_in-seconds.result r unwatched) (get_or c.args.right.now r []) c.args.from (length c.args.values.now) =
     λ r l. c.watched_in-seconds.ensures r l in
     (search rules, (search rules, (given.registers, (given.lanes, (given.alone, (given.operator, (below, (places, (given.right, (seconds, given.values))))))))))

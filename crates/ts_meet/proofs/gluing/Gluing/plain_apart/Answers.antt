@@ -5,8 +5,8 @@ use Rattle.ts_sweep.specs.Packed.{unpacked}
 use Rattle.ts_sweep.specs.Sides.{lane_count, sides}
 use Rattle.ts_meet.specs.Joints.{IsPlain}
 use Rattle.ts_meet.specs.SideLaws.{cell_packs, plain_packs}
-use Rattle.ts_meet.specs.Sides.{AreSomeEnds, ArePackOf, TakesNear, TakesPlain, ends_in, plain_values, pointed_spans, side_of}
-use Rattle.ts_meet.proofs.Gluings.{glued_packs, near_apart, plain_apart, told}
+use Rattle.ts_meet.specs.Sides.{AreSomeEnds, ArePackOf, TakesPlain, ends_in, plain_values, pointed_spans, side_of}
+use Rattle.ts_meet.proofs.Gluings.{glued_packs, plain_apart, told}
 use Rattle.ts_meet.proofs.Pointed.{lanes_pack, lanes_some}
 use Rattle.ts_meet.proofs.gluing.Gluing.plain_apart.Goals as goal
 
@@ -14,54 +14,25 @@ pub answers-requires : goal.answers-requires
 answers-requires g c =
     let s = sides g.row.N in let n = lane_count g.row.N in let big = c.requires.registers in
     let xs = lanes_of g.row.N c.args.left.now in let ys = lanes_of g.row.N c.args.right.now in
-    let a = ends_in c.of-first.result in let b = ends_in c.of-second.result in
-    let sum = c.is_spread_sum.ensures c.if-is_spread_sum.true in
-    near_apart a b
-    (subst AreSomeEnds (sym c.of-first.ensures) (lanes_some s n xs big c.requires.left))
-    (subst AreSomeEnds (sym c.of-second.ensures) (lanes_some s n ys big c.requires.right)) c.args.self
-    (subst (λ z. IsPlain c.args.self z b) (sym c.of-first.ensures)
-    (subst (IsPlain c.args.self (side_of s xs)) (sym c.of-second.ensures) c.requires.plain)) c.requires.apart sum.0 sum.1
-
-pub answers-requires-else-is_spread_sum : goal.answers-requires-else-is_spread_sum
-answers-requires-else-is_spread_sum g c =
-    let s = sides g.row.N in let n = lane_count g.row.N in let big = c.requires.registers in
-    let xs = lanes_of g.row.N c.args.left.now in let ys = lanes_of g.row.N c.args.right.now in
-    let a = ends_in c.of-first.result in let b = ends_in c.of-second.result in
+    let a = ends_in c.of.result in let b = ends_in c.of-2.result in
     plain_apart a b
-    (subst AreSomeEnds (sym c.of-first.ensures) (lanes_some s n xs big c.requires.left))
-    (subst AreSomeEnds (sym c.of-second.ensures) (lanes_some s n ys big c.requires.right)) c.args.self c.requires.worth
-    (subst (λ z. IsPlain c.args.self z b) (sym c.of-first.ensures)
-    (subst (IsPlain c.args.self (side_of s xs)) (sym c.of-second.ensures) c.requires.plain)) c.requires.apart
+    (subst AreSomeEnds (sym c.of.ensures) (lanes_some s n xs big c.requires.left))
+    (subst AreSomeEnds (sym c.of-2.ensures) (lanes_some s n ys big c.requires.right)) c.args.self c.requires.worth
+    (subst (λ z. IsPlain c.args.self z b) (sym c.of.ensures)
+    (subst (IsPlain c.args.self (side_of s xs)) (sym c.of-2.ensures) c.requires.plain)) c.requires.apart
 
-pub returns-then-is_spread_sum : goal.returns-then-is_spread_sum
-returns-then-is_spread_sum g c =
+pub returns : goal.returns
+returns g c =
     let s = sides g.row.N in let n = lane_count g.row.N in let big = c.requires.registers in
     let xs = lanes_of g.row.N c.args.left.now in let ys = lanes_of g.row.N c.args.right.now in
-    let a = ends_in c.of-first.result in let b = ends_in c.of-second.result in
-    let left = pointed_spans s (spans_of (unpacked xs)) in let right = pointed_spans s (spans_of (unpacked ys)) in
-    let sum = c.is_spread_sum.ensures c.if-is_spread_sum.true in
-    glued_packs plain_values TakesNear cell_packs (λ o x y s t h p q. plain_packs o x y s t h.0 p q) (told c.args.self false) a b c.requires.worth
-    (near_apart a b
-    (subst AreSomeEnds (sym c.of-first.ensures) (lanes_some s n xs big c.requires.left))
-    (subst AreSomeEnds (sym c.of-second.ensures) (lanes_some s n ys big c.requires.right)) c.args.self
-    (subst (λ z. IsPlain c.args.self z b) (sym c.of-first.ensures)
-    (subst (IsPlain c.args.self (side_of s xs)) (sym c.of-second.ensures) c.requires.plain)) c.requires.apart sum.0 sum.1)
-    c.answers.result c.answers.ensures left right
-    (subst (λ z. ArePackOf z left) (sym c.of-first.ensures) (lanes_pack s n xs big c.requires.left))
-    (subst (λ z. ArePackOf z right) (sym c.of-second.ensures) (lanes_pack s n ys big c.requires.right))
-
-pub returns-else-is_spread_sum : goal.returns-else-is_spread_sum
-returns-else-is_spread_sum g c =
-    let s = sides g.row.N in let n = lane_count g.row.N in let big = c.requires.registers in
-    let xs = lanes_of g.row.N c.args.left.now in let ys = lanes_of g.row.N c.args.right.now in
-    let a = ends_in c.of-first.result in let b = ends_in c.of-second.result in
+    let a = ends_in c.of.result in let b = ends_in c.of-2.result in
     let left = pointed_spans s (spans_of (unpacked xs)) in let right = pointed_spans s (spans_of (unpacked ys)) in
     glued_packs plain_values TakesPlain cell_packs plain_packs (told c.args.self false) a b c.requires.worth
     (plain_apart a b
-    (subst AreSomeEnds (sym c.of-first.ensures) (lanes_some s n xs big c.requires.left))
-    (subst AreSomeEnds (sym c.of-second.ensures) (lanes_some s n ys big c.requires.right)) c.args.self c.requires.worth
-    (subst (λ z. IsPlain c.args.self z b) (sym c.of-first.ensures)
-    (subst (IsPlain c.args.self (side_of s xs)) (sym c.of-second.ensures) c.requires.plain)) c.requires.apart)
-    c.answers-else-is_spread_sum.result c.answers-else-is_spread_sum.ensures left right
-    (subst (λ z. ArePackOf z left) (sym c.of-first.ensures) (lanes_pack s n xs big c.requires.left))
-    (subst (λ z. ArePackOf z right) (sym c.of-second.ensures) (lanes_pack s n ys big c.requires.right))
+    (subst AreSomeEnds (sym c.of.ensures) (lanes_some s n xs big c.requires.left))
+    (subst AreSomeEnds (sym c.of-2.ensures) (lanes_some s n ys big c.requires.right)) c.args.self c.requires.worth
+    (subst (λ z. IsPlain c.args.self z b) (sym c.of.ensures)
+    (subst (IsPlain c.args.self (side_of s xs)) (sym c.of-2.ensures) c.requires.plain)) c.requires.apart)
+    c.answers.result c.answers.ensures left right
+    (subst (λ z. ArePackOf z left) (sym c.of.ensures) (lanes_pack s n xs big c.requires.left))
+    (subst (λ z. ArePackOf z right) (sym c.of-2.ensures) (lanes_pack s n ys big c.requires.right))

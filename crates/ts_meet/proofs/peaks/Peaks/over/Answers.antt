@@ -1,10 +1,6 @@
-use Rattle.std.proofs.Common.{◌≡◌, ◌+◌, ◌<◌, sym, subst, arith, rules}
-use Rattle.ts_row.specs.Rows.{lanes_of}
-use Rattle.ts_sweep.specs.Packed.{IsPacked}
-use Rattle.ts_sweep.specs.Sides.{lane_count}
+use Rattle.std.proofs.Common.{◌≡◌, subst, arith, rules}
 use Rattle.ts_meet.specs.Peaks.{AreAllUnder, IsUnder}
-use Rattle.ts_meet.proofs.Asking.{read_there}
-use Rattle.ts_meet.proofs.Watched.{all_so_more}
+use Rattle.ts_meet.proofs.Watched.{holds_more, hull_there, packed_there}
 use Rattle.ts_meet.proofs.peaks.Peaks.over.Goals as goal
 
 pub loop-i-init : goal.loop-i-init
@@ -12,19 +8,15 @@ loop-i-init g c i before = absurd (omega (arith, before))
 
 pub with_hull-all-requires : goal.with_hull-all-requires
 with_hull-all-requires g c =
-    let n = g.row.N in let i = c.loop-i.i in let at = c.args.from + i in let given = c.requires in let before = c.loop-i-test.true in
-    let place : at < c.args.from + c.args.count = omega (arith, before) in
-    let here = subst (λ z. IsPacked (lane_count n) (lanes_of n z))
-    (sym (read_there n c.args.hulls.now at _ c.index-hulls-from.is (let e = given.hulls.0 in omega (arith, e, place)))) (given.hulls.1 at place) in
-    (search rules, (given.registers, here))
+    let there = packed_there g.row.N c.args.from c.args.count c.loop-i.i c.args.hulls.now _ c.requires.hulls c.loop-i-test.true c.index-hulls-from.is in
+    (search rules, (c.requires.registers, there))
 
 pub loop-i-preserved : goal.loop-i-preserved
 loop-i-preserved g c =
-    let n = g.row.N in let i = c.loop-i.i in let at = c.args.from + i in let given = c.requires in let before = c.loop-i-test.true in
-    let place : at < c.args.from + c.args.count = omega (arith, before) in
-    all_so_more n (IsUnder c.loop-i.all) (IsUnder c.with_hull-all.result) c.args.hulls.now c.args.from i c.index-hulls-from.result c.with_hull-all.ensures.kept
-    c.with_hull-all.ensures.added (read_there n c.args.hulls.now at _ c.index-hulls-from.is (let e = given.hulls.0 in omega (arith, e, place)))
-    c.loop-i.invariant
+    let n = g.row.N in let i = c.loop-i.i in
+    holds_more n (IsUnder c.loop-i.all) (IsUnder c.with_hull-all.result) c.args.hulls.now c.args.from i c.index-hulls-from.result
+    c.with_hull-all.ensures.kept c.with_hull-all.ensures.added
+    (hull_there n c.args.from c.args.count i c.args.hulls.now _ c.requires.hulls c.loop-i-test.true c.index-hulls-from.is) c.loop-i.invariant
 
 pub returns : goal.returns
 returns g c =
