@@ -30,7 +30,7 @@ use Rattle.ts_sweep.specs.Operators.{crossed, sum_of_ends}
 use Rattle.ts_sweep.specs.Packed.{AreSome, AreWithin, IsPackOf, IsSomeEnds, IsWithin, register_span}
 use Rattle.ts_sweep.specs.PackedLaws.{same_ends}
 use Rattle.ts_meet.specs.declared.gluing.Gluing.{Gluing}
-use Rattle.ts_meet.specs.Joints.{IsFoldPlain, IsHeldPlain, IsOpenPlain, IsPlain, between_expression, both_expression, expression, folds_held, held_ends, is_add, joined_expression, leaves_out, open_ends, part_by}
+use Rattle.ts_meet.specs.Joints.{IsFoldPlain, IsHeldPlain, IsOpenPlain, IsPlain, between_expression, both_expression, expression, folds_held, held_ends, is_add, joined_expression, leaves_out, open_ends, part_by, spread_expression}
 use Rattle.ts_meet.specs.SideLaws.{cell_within, far_infinity, near_small}
 use Rattle.ts_meet.specs.Sides.{AreSomeEnds, ArePackOf, IsNear, IsNeutral, TakesAny, TakesNear, TakesPlain, is_far, plain_by, plain_values}
 
@@ -665,6 +665,31 @@ pub both_is : (g : Gluing) → g.wide ≡ false → g.trims ≡ false → joined
 both_is g narrow keeps =
     ap (λ w. join_of g.result (fold_of w g.fold (part_by g))) narrow
     ∙ ap (λ t. join_of g.result (cond t (folded_between g.fold Whole g.held_left g.held_right g.worth) (folded_both g.fold Whole g.worth))) keeps
+
+-- what lies on both sides of a cell, folded step by step
+
+pub between_steps : (o : Op) (p : Part) (a b : EachOf Ends) (l r : Bool) (d : ℤ) (opened with_cell with_held e : Ends) →
+    opened ≡ cond l (plain_by (Fold o) (held_ends p a) (open_ends p a)) (open_ends p a) →
+    with_cell ≡ plain_by (Fold o) opened (plain_values.constant (Int d)) →
+    with_held ≡ cond r (plain_by (Fold o) with_cell (held_ends p b)) with_cell → e ≡ plain_by (Fold o) with_held (open_ends p b) →
+    e ≡ glue_in plain_values a b (folded_between o p l r d)
+between_steps o p a b true true d opened with_cell with_held e is1 is2 is3 is4 =
+    is4 ∙ ap (λ z. plain_by (Fold o) z (open_ends p b))
+    (is3 ∙ ap (λ z. plain_by (Fold o) z (held_ends p b)) (is2 ∙ ap (λ z. plain_by (Fold o) z (plain_values.constant (Int d))) is1))
+between_steps o p a b true false d opened with_cell with_held e is1 is2 is3 is4 =
+    is4 ∙ ap (λ z. plain_by (Fold o) z (open_ends p b)) (is3 ∙ is2 ∙ ap (λ z. plain_by (Fold o) z (plain_values.constant (Int d))) is1)
+between_steps o p a b false true d opened with_cell with_held e is1 is2 is3 is4 =
+    is4 ∙ ap (λ z. plain_by (Fold o) z (open_ends p b))
+    (is3 ∙ ap (λ z. plain_by (Fold o) z (held_ends p b)) (is2 ∙ ap (λ z. plain_by (Fold o) z (plain_values.constant (Int d))) is1))
+between_steps o p a b false false d opened with_cell with_held e is1 is2 is3 is4 =
+    is4 ∙ ap (λ z. plain_by (Fold o) z (open_ends p b)) (is3 ∙ is2 ∙ ap (λ z. plain_by (Fold o) z (plain_values.constant (Int d))) is1)
+
+-- of wide ones the least is taken away
+
+pub spread_is : (g : Gluing) → g.wide ≡ true → g.fold ≡ Max → joined_expression g ≡ spread_expression g
+spread_is g wide greatest =
+    ap (λ w. join_of g.result (fold_of w g.fold (part_by g))) wide
+    ∙ ap (λ o. join_of g.result (With Sub (part_by g o Whole) (part_by g Min Away))) greatest
 
 -- how a pair of states is glued is its expression
 

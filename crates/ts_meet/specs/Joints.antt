@@ -5,8 +5,9 @@ use Rattle.ts_base.specs.declared.op.Op.TheVariants.{Add, Max, Min}
 use Rattle.ts_automaton.specs.Body.{node_at}
 use Rattle.ts_automaton.specs.declared.state.Mark.{Mark}
 use Rattle.ts_automaton.specs.declared.state.Mark.TheVariants.{Same, Zero as ZeroMark, Cells}
+use Rattle.ts_automaton.specs.declared.expr.Operator.TheVariants.{Sub}
 use Rattle.ts_automaton.specs.Registers.{EachOf, value_in}
-use Rattle.ts_glue.specs.Glue.{Glue, apart, fold_of, folded_between, folded_both, fold_op, glue_of, held_in, is_join, is_wide, join_of, open_in, result_op, worth}
+use Rattle.ts_glue.specs.Glue.{Glue, With, apart, fold_of, folded_between, folded_both, fold_op, glue_of, held_in, is_join, is_wide, join_of, open_in, result_op, worth}
 use Rattle.ts_glue.specs.declared.operand.Part.{Part}
 use Rattle.ts_glue.specs.declared.operand.Part.TheVariants.{Whole, Away}
 use Rattle.ts_glue.specs.Pairs.{Pair}
@@ -33,6 +34,10 @@ between_expression g = join_of g.result (folded_between g.fold Whole g.held_left
 
 abbrev pub both_expression : Gluing → Glue
 both_expression g = join_of g.result (folded_both g.fold Whole g.worth)
+
+-- the expression of wide automata where an occurrence goes on in which the greatest is folded
+abbrev pub spread_expression : Gluing → Glue
+spread_expression g = join_of g.result (With Sub (part_by g Max Whole) (part_by g Min Away))
 
 -- what is glued where an occurrence goes on, by the parts of the gluing
 abbrev pub told_joined : (o fold : Op) → ℤ → (wide trims held_left held_right : Bool) → Glue

@@ -371,10 +371,10 @@ fn along_spread<const O: u8, const N: usize>(
         return along_glued(Any, joints, gluing, left, right, values, from, cells);
     }
     if joints.trims {
-        let seam = Through::<O, GREATEST, true>;
+        let seam = Through::<O, true>;
         along_glued(seam, joints, gluing, left, right, values, from, cells)
     } else {
-        let seam = Through::<O, GREATEST, false>;
+        let seam = Through::<O, false>;
         along_glued(seam, joints, gluing, left, right, values, from, cells)
     }
 }

@@ -3,9 +3,10 @@
 ghost use Rattle.std.specs.Prelude.{◌≡◌, ◌⊎◌, ◌≤◌, true, false, neg_ℤ, pos};
 ghost use Rattle.ts_automaton.specs.Registers.{EachOf, Takes, spans_of, value_in};
 ghost use Rattle.ts_base.specs.declared.ext.Ext.TheVariants.{Int};
-ghost use Rattle.ts_base.specs.declared.op.Op.TheVariants.{Max};
+ghost use Rattle.ts_base.specs.declared.op.Op.TheVariants.{Max, Min};
 ghost use Rattle.ts_base.specs.Limits.{IsCellValue};
 ghost use Rattle.ts_glue.specs.Glue.{GlueTakes, apart, fold_of, folded_between, folded_both, glue_in, held_of, result_of};
+ghost use Rattle.ts_glue.specs.declared.operand.Part.TheVariants.{Away, Whole};
 ghost use Rattle.ts_hull.specs.Sealed.{sealed_spans};
 ghost use Rattle.ts_meet.specs.Joints.{
   IsFoldPlain,
@@ -18,11 +19,20 @@ ghost use Rattle.ts_meet.specs.Joints.{
   is_add,
   joined_expression,
   part_by,
+  spread_expression,
   told_joined,
   with_worth,
 };
 ghost use Rattle.ts_meet.specs.Peaks.{IsHeldBy, IsKnown, IsSmall, IsUnder};
-ghost use Rattle.ts_meet.specs.Sides.{AreSomeEnds, TakesPlain, ends_in, plain_values, pointed_spans, side_of};
+ghost use Rattle.ts_meet.specs.Sides.{
+  AreSomeEnds,
+  TakesNear,
+  TakesPlain,
+  ends_in,
+  plain_values,
+  pointed_spans,
+  side_of,
+};
 ghost use Rattle.ts_sweep.specs.declared.packed.Ends.{Ends};
 ghost use Rattle.ts_row.specs.Rows.{lanes_of};
 ghost use Rattle.ts_sweep.specs.Fronts.{ArePlain};
@@ -32,9 +42,10 @@ ghost use Rattle.ts_sweep.specs.Sides.{BothEnds, lane_count, seen, sides};
 use crate::column::Watched;
 use crate::peaks::Peaks;
 use crate::side::{Side, are_plain, is_open_plain, shown};
-use crate::sums::{Clamped, Near, Plain, Sums, is_infinity};
+use crate::sums::{Clamped, Near, Plain, Sums, is_infinity, less_near};
 use ts_automaton::{Op, Operator};
 use ts_glue::Part;
+use ts_sweep::operator::{Greater, Lesser, Operator as OnEnds};
 use ts_sweep::packed::{Ends, PackedHull};
 
 /// How the registers of a pair of states are glued: the operators that join results and fold cells, what the cell is
@@ -368,6 +379,7 @@ impl Gluing {
         requires right { AreSome (lane_count N) (lanes_of N right.now) }
         requires worth { IsCellValue self.worth }
         requires wide { self.wide ≡ true }
+        requires greatest { self.fold ≡ Max }
         requires joined { self.joins ≡ true }
         requires plain { IsPlain self
             (side_of (sides N) (lanes_of N left.now)) (side_of (sides N) (lanes_of N right.now)) }
@@ -387,6 +399,7 @@ impl Gluing {
         requires right { AreSome (lane_count N) (lanes_of N right.now) }
         requires worth { IsCellValue self.worth }
         requires wide { self.wide ≡ true }
+        requires greatest { self.fold ≡ Max }
         requires joined { self.joins ≡ true }
         requires plain { IsPlain self
             (side_of (sides N) (lanes_of N left.now)) (side_of (sides N) (lanes_of N right.now)) }
@@ -394,7 +407,105 @@ impl Gluing {
             (pointed_spans (sides N) (spans_of (unpacked (lanes_of N left.now))))
             (pointed_spans (sides N) (spans_of (unpacked (lanes_of N right.now)))) (joined_expression self)) }
     {
-        self.joined_by::<Near>(Side::of(left), Side::of(right))
+        self.joined_spread(Side::of(left), Side::of(right))
+    }
+
+    /// The glued ends before the mark of wide automata with the sums of the lanes, where one occurrence goes on: the
+    /// greatest of its cells less the least.
+    #[inline(always)]
+    fn joined_spread(self, left: Side, right: Side) -> Ends
+        requires fits { GlueTakes TakesNear plain_values (ends_in left) (ends_in right) (spread_expression self) }
+        requires worth { IsCellValue self.worth }
+        ensures { result ≡ glue_in plain_values (ends_in left) (ends_in right) (spread_expression self) }
+    {
+        let join = Operator::Fold(self.result);
+        let spread = less_near(self.greatest(left, right), self.least(left, right));
+        Near::joined(join, Near::joined(join, left.r, right.r), spread)
+    }
+
+    /// The greatest cell of the occurrence that goes on. Its operator isn't looked up, so that this is short enough to
+    /// lie in the loop over values.
+    #[inline(always)]
+    fn greatest(self, left: Side, right: Side) -> Ends
+        requires { IsCellValue self.worth }
+        ensures { result ≡ glue_in plain_values (ends_in left) (ends_in right) (part_by self Max Whole) }
+    {
+        if self.trims {
+            self.greatest_between(left, right)
+        } else {
+            self.greatest_of_both(left, right)
+        }
+    }
+
+    /// The greatest of what is held and open on both sides and of the cell between them.
+    #[inline(always)]
+    fn greatest_between(self, left: Side, right: Side) -> Ends
+        requires { IsCellValue self.worth }
+        ensures { result ≡ glue_in plain_values (ends_in left) (ends_in right)
+            (folded_between Max Whole self.held_left self.held_right self.worth) }
+    {
+        let opened = if self.held_left {
+            Greater.of(left.c, left.d)
+        } else {
+            left.d
+        };
+        let with_cell = Greater.of(opened, self.cell::<Near>());
+        let with_held = if self.held_right {
+            Greater.of(with_cell, right.c)
+        } else {
+            with_cell
+        };
+        Greater.of(with_held, right.d)
+    }
+
+    /// The greatest of what both sides have folded.
+    #[inline(always)]
+    fn greatest_of_both(self, left: Side, right: Side) -> Ends
+        ensures { result ≡ glue_in plain_values (ends_in left) (ends_in right) (folded_both Max Whole self.worth) }
+    {
+        Greater.of(Greater.of(left.c, left.d), Greater.of(right.c, right.d))
+    }
+
+    /// The least cell of the occurrence that goes on.
+    #[inline(always)]
+    fn least(self, left: Side, right: Side) -> Ends
+        requires { IsCellValue self.worth }
+        ensures { result ≡ glue_in plain_values (ends_in left) (ends_in right) (part_by self Min Away) }
+    {
+        if self.trims {
+            self.least_between(left, right)
+        } else {
+            self.least_of_both(left, right)
+        }
+    }
+
+    /// The least of what is held and open on both sides and of the cell between them.
+    #[inline(always)]
+    fn least_between(self, left: Side, right: Side) -> Ends
+        requires { IsCellValue self.worth }
+        ensures { result ≡ glue_in plain_values (ends_in left) (ends_in right)
+            (folded_between Min Away self.held_left self.held_right self.worth) }
+    {
+        let opened = if self.held_left {
+            Lesser.of(left.e, left.f)
+        } else {
+            left.f
+        };
+        let with_cell = Lesser.of(opened, self.cell::<Near>());
+        let with_held = if self.held_right {
+            Lesser.of(with_cell, right.e)
+        } else {
+            with_cell
+        };
+        Lesser.of(with_held, right.f)
+    }
+
+    /// The least of what both sides have folded.
+    #[inline(always)]
+    fn least_of_both(self, left: Side, right: Side) -> Ends
+        ensures { result ≡ glue_in plain_values (ends_in left) (ends_in right) (folded_both Min Away self.worth) }
+    {
+        Lesser.of(Lesser.of(left.e, left.f), Lesser.of(right.e, right.f))
     }
 
     /// The glued ends of two hulls before the mark, where the cell lies between both sides of an occurrence and

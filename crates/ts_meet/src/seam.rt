@@ -3,6 +3,7 @@
 
 use crate::fold::numbered;
 use crate::gluing::Gluing;
+use ts_automaton::Op;
 use ts_sweep::packed::{Ends, PackedHull};
 
 /// A way to glue two hulls of N lanes.
@@ -68,10 +69,10 @@ pub(crate) struct Between<const O: u8, const F: u8>;
 #[derive(Clone, Copy)]
 pub(crate) struct Both<const O: u8, const F: u8>;
 
-/// One occurrence of wide automata goes on, and all numbers that are added or taken away are small. `TRIMS` is whether
-/// it leaves a cell out at its end.
+/// One occurrence of wide automata goes on in which the greatest is folded, and all numbers that are added or taken away
+/// are small. `TRIMS` is whether it leaves a cell out at its end.
 #[derive(Clone, Copy)]
-pub(crate) struct Through<const O: u8, const F: u8, const TRIMS: bool>;
+pub(crate) struct Through<const O: u8, const TRIMS: bool>;
 
 /// Any way to glue, looked up again for each value.
 #[derive(Clone, Copy)]
@@ -179,12 +180,13 @@ impl<const O: u8, const F: u8, const N: usize> Seam<N> for Both<O, F> {
     }
 }
 
-impl<const O: u8, const F: u8, const TRIMS: bool, const N: usize> Seam<N> for Through<O, F, TRIMS> {
+impl<const O: u8, const TRIMS: bool, const N: usize> Seam<N> for Through<O, TRIMS> {
     ghost use Rattle.std.specs.Prelude.{◌≡◌, true};
+    ghost use Rattle.ts_base.specs.declared.op.Op.TheVariants.{Max};
     ghost use Rattle.ts_meet.specs.Joints.{IsPlain, numbered};
     ghost use Rattle.ts_meet.specs.SideLaws.{plain_with_worth};
 
-    ghost fits = { λ g. (g.joins ≡ true) × (g.trims ≡ TRIMS) × (g.result ≡ numbered O) × (g.fold ≡ numbered F)
+    ghost fits = { λ g. (g.joins ≡ true) × (g.trims ≡ TRIMS) × (g.result ≡ numbered O) × (g.fold ≡ Max)
         × (g.wide ≡ true) };
 
     ghost takes = { λ g a b. IsPlain g a b };
@@ -195,9 +197,7 @@ impl<const O: u8, const F: u8, const TRIMS: bool, const N: usize> Seam<N> for Th
 
     #[inline(always)]
     fn glued(self, gluing: Gluing, left: &PackedHull<N>, right: &PackedHull<N>) -> Ends {
-        let known = gluing
-            .known(numbered(O), numbered(F), true)
-            .known_trims(TRIMS);
+        let known = gluing.known(numbered(O), Op::Max, true).known_trims(TRIMS);
         known.glued_through(left, right)
     }
 }
