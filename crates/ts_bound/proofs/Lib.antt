@@ -29,3 +29,4 @@ mod ShownRows
 mod WithoutValues
 mod PlainRows
 mod Filled
+mod FitLaws

@@ -32,11 +32,13 @@ use Rattle.ts_bound.specs.NextRow.{states_of}
 use Rattle.ts_bound.specs.HullTables.{start_hull, hull_at, hulls_at, cells_before, cells_after, values_at}
 use Rattle.ts_bound.specs.TermSpans.{Automata, LooksIn, automata_of, standing_in, span_of_all, finish_spans, glued_spans, spans_at, inner_value_span, inner_span, value_span, term_span}
 use Rattle.ts_bound.specs.Laws.{Splits, AreAutomata}
-use Rattle.ts_bound.specs.Blocks.{standing_of, HullsStand, finishes, glued_with, glued_all, OfReverse, back_hulls, back_states, split_at, last_at}
+use Rattle.ts_meet.specs.declared.joints.Joints.{Joints}
+use Rattle.ts_meet.specs.Joints.{AreJoints}
+use Rattle.ts_bound.specs.Blocks.{standing_of, finishes, glued_with, glued_all, back_hulls, back_states, split_at, last_at}
 use Rattle.ts_bound.specs.Looks.{is_looked, read_at, place_in}
 use Rattle.ts_hull.proofs.HullLaws.{IsCanonical, hull_canonical}
 use Rattle.ts_bound.proofs.Looking.{looked_length, looked_get, place_end, place_read, read_inside_box}
-use Rattle.ts_bound.proofs.SpanRuns.{hulls_stand, none_some, same_some}
+use Rattle.ts_bound.proofs.SpanRuns.{none_some, same_some}
 
 -- lists over a range that agree at each place
 
@@ -180,12 +182,6 @@ machine_splits m r = go m.half refl r
     go None e r = tt
     go (Some h) e r = record { forward = refl; reverse = r; rules = m.rules h e; local = m.local h e }
 
-pub right_kinds : (o : Option Pair) (m : ℕ) (behind : List (List ℤ)) (v : ℤ) (hs : List Hull) → OfReverse o (λ b. IsTrue (is_automaton b)) →
-    m ≡ back_states o →
-    hs ≡ back_hulls o behind v → OfReverse o (λ b. (length b.states ≡ m) × HullsStand b hs)
-right_kinds None m behind v hs h is_m is = absurd h
-right_kinds (Some p) m behind v hs h is_m is = (sym is_m, hulls_stand p.reverse h behind v hs is)
-
 -- spans at a cell of the box, read where it is looked at
 
 abbrev pub value_there : Automata → ℕ → List (List ℤ) → ℤ → Span
@@ -267,12 +263,25 @@ value_within [] i v h at = absurd (none_some v at)
 value_within (x ∷ values) zero v h at = subst IsCellValue (same_some x v at) h.0
 value_within (x ∷ values) (suc i) v h at = value_within values i v h.1 at
 
--- what the reverse body tells, seen through the machine
+-- how many states both automata have, and the spans of all pairs of them, by what is kept of the pair
 
-pub reverse_rules : (o : Option Pair) (r : Option Body) (b : Body) → r ≡ option_map (λ p. p.reverse) o → r ≡ Some b → IsTrue (is_automaton b) →
-    OfReverse o (λ b. IsTrue (is_automaton b))
-reverse_rules None r b e is h = absurd (none_some b (sym e ∙ is))
-reverse_rules (Some p) r b e is h = subst (λ x. IsTrue (is_automaton x)) (same_some b p.reverse (sym is ∙ e)) h
+pub front_count : (f : Body) (o : Option Pair) (j : Joints) → IsSome o → IsPairOf f o → IfSome o (λ p. AreJoints p j) → j.left_states ≡ length f.states
+front_count f None j some is h = cc
+front_count f (Some p) j some is h = h.left_states ∙ ap (λ (b : Body). length b.states) is
+
+pub back_count : (o : Option Pair) (j : Joints) → IsSome o → IfSome o (λ p. AreJoints p j) → j.right_states ≡ back_states o
+back_count None j some h = cc
+back_count (Some p) j some h = h.right_states
+
+pub glued_there : (f : Body) (o : Option Pair) (j : Joints) (left right : List Hull) (x : ℤ) (n : ℕ) (one : Span) → IsSome o → IsPairOf f o →
+    IfSome o (λ p. AreJoints p j) →
+    ((p : Pair) → AreJoints p j → one ≡ span_of_all (glued_all (Some p) left right x n j.right_states j.left_states)) →
+    one ≡ span_of_all (glued_all o left right x n j.right_states (length f.states))
+glued_there f None j left right x n one some is h told = cc
+glued_there f (Some p) j left right x n one some is h told =
+    told p h ∙ ap (λ k. span_of_all (glued_all (Some p) left right x n j.right_states k)) (front_count f (Some p) j some is h)
+
+-- what the type of a machine keeps, seen through it
 
 pub whole_split : (m : Machine) (b : Body) (r : Option Body) → r ≡ reverse_of m → r ≡ Some b → IsTrue (is_automaton b) →
     IsTrue (is_automaton (forward_of m)) → AreAutomata (automata_of m)

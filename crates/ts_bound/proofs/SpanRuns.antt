@@ -1,26 +1,25 @@
 -- What the loops over the values of a cell and over the states of a value keep, where spans are read off rows.
 use Rattle.std.proofs.Common.{◌≡◌, true, ℕ, zero, suc, ◌+◌, ◌*◌, ◌-◌, ◌<◌, ◌≤◌, ℤ, List, [], ◌∷◌, ◌++◌, length, map, take, drop, get_or, slice_get, refl, sym, ap, ◌∙◌, subst, arith}
-use Rattle.std.specs.Prelude.{IsTrue, IsSome, fold, flat_map, reverse, slice_range, Option, None, Some, IfSome, option_map}
+use Rattle.std.specs.Prelude.{IsSome, fold, flat_map, reverse, slice_range, Option, None, Some, IfSome}
 use Rattle.std.specs.List.{range_with_len}
 use Rattle.std.proofs.lemmas.List.{append-nil, append_assoc, get_or_default, length-append, reverse-append, map_push}
 use Rattle.std.proofs.lemmas.List.Sums.{fold-append}
-use Rattle.std.proofs.lemmas.List.FromFn.{length-map-range_with_len, get_or-map-range_with_len}
+use Rattle.std.proofs.lemmas.List.FromFn.{length-map-range_with_len}
 use Rattle.std.proofs.Math.Seq.{take-append_seam, drop-append-add}
 use Rattle.ts_base.specs.declared.span.Span.{Span}
 use Rattle.ts_base.specs.Spans.{none_span, span_hull}
 use Rattle.ts_automaton.specs.declared.regs.Hull.{Hull}
 use Rattle.ts_automaton.specs.Registers.{spans_of}
-use Rattle.ts_automaton.specs.Typing.{is_automaton}
 use Rattle.ts_automaton.specs.Body.{Body}
 use Rattle.ts_automaton.specs.AutomatonRun.{Standing}
-use Rattle.ts_automaton.specs.SpanRun.{HullStands, finish_span_of}
+use Rattle.ts_automaton.specs.SpanRun.{finish_span_of}
 use Rattle.ts_glue.specs.Pairs.{Pair}
 use Rattle.ts_glue.specs.Glued.{glued_span}
 use Rattle.ts_hull.specs.Hulls.{none}
 use Rattle.ts_bound.specs.HullTables.{hull_at, hulls_at, row_of, cells_before, cells_after, values_at, rows_behind, forward_rows, backward_rows, forward_table, backward_table}
 use Rattle.ts_bound.specs.TermSpans.{span_of_all}
-use Rattle.ts_bound.specs.Blocks.{standing_of, HullsStand, glued_by, finishes, glued_with, glued_all, OfReverse, AreBackRows, back_hulls, back_states}
-use Rattle.ts_bound.proofs.TableLaws.{hull_kept, kept_stands, length-forward, length-backward}
+use Rattle.ts_bound.specs.Blocks.{standing_of, glued_by, finishes, glued_with, glued_all, OfReverse, AreBackRows, back_hulls, back_states}
+use Rattle.ts_bound.proofs.TableLaws.{length-forward, length-backward}
 use Rattle.ts_bound.specs.Rows.{IsRow, row_at, windowed}
 use Rattle.ts_bound.specs.Looks.{is_looked, count_looked, place_in}
 use Rattle.ts_bound.proofs.Looking.{looked_length, looked_get, place_bounds, windowed_at, windowed_length}
@@ -67,18 +66,6 @@ finish_more b hulls n q h d span one lt is_h is_one inv =
     (is_one ∙ ap (λ x. finish_span_of b (record { state = q; regs = spans_of x }) n) here)
     ∙ sym (ap span_of_all (ap (map f) (range_more q q refl) ∙ map_push f (range_with_len 0 q) q)
     ∙ fold-append span_hull none_span (map f (range_with_len 0 q)) (f q ∷ []))
-
-pub block_stands : (b : Body) (hulls : List Hull) (q : ℕ) (h d : Hull) → q < length hulls → length hulls ≡ length b.states → h ≡ get_or hulls q d →
-    HullsStand b hulls →
-    HullStands b (record { state = q; regs = spans_of h })
-block_stands b hulls q h d lt long is k =
-    subst (λ x. HullStands b (record { state = q; regs = spans_of x })) (sym (is ∙ get_or_default hulls q d none lt)) (k q (omega (arith, lt, long)))
-
-pub right_stands : (p : Option Pair) (hulls : List Hull) (m q : ℕ) (h d : Hull) → q < m → length hulls ≡ m → h ≡ get_or hulls q d →
-    OfReverse p (λ b. (length b.states ≡ m) × HullsStand b hulls) →
-    IfSome (option_map (λ p. p.reverse) p) (λ b. HullStands b (record { state = q; regs = spans_of h }))
-right_stands None hulls m q h d lt long is k = tt
-right_stands (Some p) hulls m q h d lt long is k = let e = k.0 in block_stands p.reverse hulls q h d (omega (arith, lt, long)) (omega (arith, long, e)) is k.1
 
 pub split_some : (p : Option Pair) (P : Body → Type 0) → OfReverse p P → IsSome p
 split_some None P h = absurd h
@@ -157,13 +144,6 @@ block_is n m f size vs i v row hs is_m at is is_hs =
 pub length-hulls_at : (b : Body) (before : List (List ℤ)) (v : ℤ) → length (hulls_at b before v) ≡ length b.states
 unfolding hulls_at
 length-hulls_at b before v = length-map-range_with_len (hull_at b before v) 0 (length b.states)
-
-pub hulls_stand : (b : Body) → IsTrue (is_automaton b) → (before : List (List ℤ)) (v : ℤ) (hs : List Hull) → hs ≡ hulls_at b before v → HullsStand b hs
-unfolding hulls_at
-hulls_stand b rules before v hs is q lt =
-    subst (λ h. HullStands b (record { state = q; regs = spans_of h }))
-    (sym (ap (λ l. get_or l q none) is ∙ get_or-map-range_with_len (hull_at b before v) 0 (length b.states) q q none lt (omega arith)))
-    (kept_stands b q (hull_at b before v q) lt (hull_kept b rules before v q))
 
 pub back_length : (o : Option Pair) (behind : List (List ℤ)) (v : ℤ) → length (back_hulls o behind v) ≡ back_states o
 back_length None behind v = refl

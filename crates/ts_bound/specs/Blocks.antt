@@ -1,5 +1,5 @@
 -- The spans of one value of a cell from its hulls: a list of hulls has one for each state.
-use Rattle.std.specs.Prelude.{◌≡◌, ◌<◌, ℕ, ℤ, List, [], length, map, flat_map, get_or, Option, None, Some}
+use Rattle.std.specs.Prelude.{◌≡◌, ℕ, ℤ, List, [], length, map, flat_map, get_or, Option, None, Some}
 use Rattle.std.specs.List.{range_with_len}
 use Rattle.ts_base.specs.declared.range.Range.{Range}
 use Rattle.ts_base.specs.declared.span.Span.{Span}
@@ -8,7 +8,7 @@ use Rattle.ts_automaton.specs.declared.regs.Hull.{Hull}
 use Rattle.ts_automaton.specs.Registers.{spans_of}
 use Rattle.ts_automaton.specs.Body.{Body}
 use Rattle.ts_automaton.specs.AutomatonRun.{Standing}
-use Rattle.ts_automaton.specs.SpanRun.{HullStands, finish_span_of}
+use Rattle.ts_automaton.specs.SpanRun.{finish_span_of}
 use Rattle.ts_glue.specs.Pairs.{Pair}
 use Rattle.ts_glue.specs.Glued.{glued_span}
 use Rattle.ts_hull.specs.Hulls.{none}
@@ -18,10 +18,6 @@ use Rattle.ts_bound.specs.TermSpans.{span_of_all}
 -- the state q with its hull
 abbrev pub standing_of : List Hull → ℕ → Standing Span
 standing_of hulls q = record { state = q; regs = spans_of (get_or hulls q none) }
-
--- each hull is none or has the kinds of its state
-abbrev pub HullsStand : Body → List Hull → Type 0
-HullsStand b hulls = (q : ℕ) → q < length b.states → HullStands b (standing_of hulls q)
 
 -- the glued span, of a machine that can be split
 abbrev pub glued_by : Option Pair → Standing Span → Standing Span → ℤ → ℕ → Span

@@ -19,3 +19,4 @@ pub mod Room
 pub mod RowStacks
 pub mod RowWindows
 pub mod PlainRows
+pub mod Fits

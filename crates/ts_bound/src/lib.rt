@@ -38,6 +38,7 @@ mod moves;
 mod others;
 mod packable;
 mod packed_rows;
+mod packing;
 mod pairs;
 mod places;
 mod plain_rows;

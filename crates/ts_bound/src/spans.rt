@@ -6,7 +6,6 @@ ghost use Rattle.std.specs.Prelude.{
   ◌*◌,
   ◌≤◌,
   Contains,
-  IsSome,
   IsTrue,
   MatchOption,
   Some,
@@ -14,9 +13,8 @@ ghost use Rattle.std.specs.Prelude.{
   slice_get,
   slice_range,
 };
-ghost use Rattle.ts_automaton.specs.Typing.{is_automaton};
 ghost use Rattle.ts_base.specs.Windows.{looked_at};
-ghost use Rattle.ts_bound.specs.Blocks.{AreBackRows, OfReverse, back_states};
+ghost use Rattle.ts_bound.specs.Blocks.{AreBackRows};
 ghost use Rattle.ts_bound.specs.HullTables.{forward_table};
 ghost use Rattle.ts_bound.specs.Looks.{is_looked, place_in};
 ghost use Rattle.ts_bound.specs.TermSpans.{LooksIn, automata_of, inner_value_span, term_span, value_span};
@@ -31,6 +29,7 @@ use ts_automaton::Hull;
 use ts_base::Span;
 use ts_domain::Boxed;
 use ts_glue::Machine;
+use ts_meet::Joints;
 
 /// The span at cell `p` of a box, from its tables; at a cell outside the machine's window that of the window's last
 /// cell. Without the backward table only the last cell of the box has a span.
@@ -103,21 +102,19 @@ fn span_at(
     ensures { result ≡ inner_value_span (automata_of m.now) (place_in (window_of m.now) k)
         (looked_at (window_of m.now) cells.now.present) v }
 {
+    machine_is_whole(m);
     let n = looked_count(m.window(), cells.cells());
     let a = m.forward();
     let row = ahead.row(k);
     let left = block(row, a.states(), i);
     match back {
         Some(back) => {
-            let states = reverse_states(m);
+            let joints = Joints::of(m);
             let back_row = back.row(k);
-            let right = block(back_row, states, i);
-            glue_block(m, left, right, states, v, n)
+            let right = block(back_row, joints.right_states, i);
+            glue_block(&joints, left, right, v, n)
         }
-        None => {
-            machine_is_whole(m);
-            finish_block(a, left, n)
-        }
+        None => finish_block(a, left, n),
     }
 }
 
@@ -129,16 +126,4 @@ fn block(row: &[Hull], states: u8, i: u64) -> &[Hull]
     let states = states as usize;
     let from = i as usize * states;
     &row[from..from + states]
-}
-
-/// The number of states of the reverse automaton.
-pub(crate) fn reverse_states(m: &Machine) -> u8
-    requires { IsSome (pair_of m.now) }
-    ensures count { result ≡ back_states (pair_of m.now) }
-    ensures rules { OfReverse (pair_of m.now) (λ b. IsTrue (is_automaton b)) }
-{
-    match m.reverse() {
-        Some(reverse) => reverse.states(),
-        None => unreachable!(),
-    }
 }

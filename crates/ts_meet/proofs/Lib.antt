@@ -8,3 +8,4 @@ pub mod Asking
 pub mod CallerLemmas
 pub mod Lanes
 pub mod Places
+mod AloneLaws

@@ -14,6 +14,7 @@
 //! hulls that have one end alone it is what that end tells: the other end of each span is infinite, before the mark.
 #![tactic(auto)]
 
+mod alone;
 mod along;
 mod asked;
 mod column;
@@ -34,6 +35,7 @@ mod small;
 mod spot;
 mod sums;
 
+pub use alone::{finish_of, glued_pair};
 pub use along::glued_along;
 pub use asked::{Asked, asked_at};
 pub use finished::finish_along;

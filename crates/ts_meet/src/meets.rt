@@ -152,7 +152,7 @@ fn with_state<const N: usize>(
 
 /// A hull with the glued span of one pair of states added, if any series reaches the state on the right.
 #[inline(always)]
-fn with_pair<const N: usize>(
+pub(crate) fn with_pair<const N: usize>(
     hull: Ends,
     operator: Op,
     joints: &Joints,

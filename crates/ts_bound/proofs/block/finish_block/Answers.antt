@@ -1,22 +1,22 @@
 use Rattle.std.proofs.Common.{◌≡◌, refl, ap, ◌∙◌, length, arith}
 use Rattle.ts_bound.specs.Blocks.{finishes}
 use Rattle.ts_bound.specs.TermSpans.{span_of_all}
-use Rattle.ts_bound.proofs.SpanRuns.{block_stands, finish_begun, finish_more}
+use Rattle.ts_bound.proofs.FitLaws.{fits_at}
+use Rattle.ts_bound.proofs.SpanRuns.{finish_begun, finish_more}
 use Rattle.ts_bound.proofs.block.finish_block.Goals as goal
 
 pub loop-q-init : goal.loop-q-init
 loop-q-init c = finish_begun c.args.a.now c.args.hulls.now c.args.n c.none-span.result c.none-span.ensures
 
-pub finish_span-requires : goal.finish_span-requires
-finish_span-requires c =
-    block_stands c.args.a.now c.args.hulls.now c.loop-q.q _ _ (omega (arith, c.loop-q-test.true, c.states-states.ensures.count, c.requires.states))
-    c.requires.states refl c.requires.kinds
+pub finish_state-requires : goal.finish_state-requires
+finish_state-requires c =
+    fits_at c.args.hulls.now c.loop-q.q _ _ (omega (arith, c.loop-q-test.true, c.states-states.ensures.count, c.requires.states)) refl c.requires.fit
 
 pub loop-q-preserved : goal.loop-q-preserved
 loop-q-preserved c =
     c.hull-span.ensures
-    ∙ finish_more c.args.a.now c.args.hulls.now c.args.n c.loop-q.q _ _ c.loop-q.span c.finish_span.result
-    (omega (arith, c.loop-q-test.true, c.states-states.ensures.count, c.requires.states)) refl c.finish_span.ensures c.loop-q.invariant
+    ∙ finish_more c.args.a.now c.args.hulls.now c.args.n c.loop-q.q _ _ c.loop-q.span c.finish_state.result
+    (omega (arith, c.loop-q-test.true, c.states-states.ensures.count, c.requires.states)) refl (c.finish_state.ensures c.loop-q.q) c.loop-q.invariant
 
 pub returns : goal.returns
 returns c =
