@@ -1,5 +1,5 @@
 -- The drops by the requirements of one term, value by value and cell by cell, and those of all terms.
-use Rattle.std.proofs.Common.{◌≡◌, ◌⊎◌, ℕ, min, zero, suc, ◌+◌, ◌-◌, ◌<◌, ◌≤◌, ℤ, ◌<ℤ◌, pos, ◌↔◌, Bool, true, false, List, [], ◌∷◌, length, map, drop}
+use Rattle.std.proofs.Common.{◌≡◌, ◌⊎◌, ℕ, zero, suc, ◌+◌, ◌-◌, ◌<◌, ◌≤◌, ℤ, ◌<ℤ◌, pos, ◌↔◌, Bool, true, false, List, [], ◌∷◌, length, map, drop}
 use Rattle.std.proofs.Common.{Option, Some, None, option_map, slice_get, get_or, refl, sym, ◌∙◌, ap, subst, inl, inr, ⊎_elim, arith}
 use Rattle.std.proofs.lemmas.Option.{slice_get-get_or, slice_get-map, slice_get_read}
 use Rattle.std.specs.Prelude.{Contains, IsSome, is_some}
@@ -28,7 +28,7 @@ use Rattle.ts_filter.proofs.CallLaws.{usable_only, usable_whole}
 use Rattle.ts_filter.proofs.CellLaws.{left_is}
 use Rattle.ts_filter.proofs.Looked.{value_outside}
 use Rattle.ts_filter.proofs.MachineLaws.{spans_are_of_machines}
-use Rattle.ts_filter.proofs.Removals.{first_of_near, first_same}
+use Rattle.ts_filter.proofs.Removals.{first_of_both, first_of_near, first_same}
 use Rattle.ts_filter.proofs.SoundLaws.{each_at}
 
 -- the first of a rising list is below the others
@@ -196,17 +196,6 @@ module _ (rs : List Require) (term : ℕ) (a : Automata) (b : Box) where
       by_test false e = absurd (refuted t.cell h.usable e t.require (refuting_outside t h e))
   may_have (Some j) refuted t h = inr refl
 
-  pub none_up_to_first : (outside : Option ℕ) (first : ℕ) → IsRefutedOutside rs term a b outside →
-      ((k : ℕ) → IsUsableOf a k b → MayHaveDrop a outside k → first < k) → NoneUpTo first
-  none_up_to_first outside first refuted all t h = all t.cell h.usable (may_have outside refuted t h)
-
-  pub none_behind_last : (outside : Option ℕ) (last to m n : ℕ) → IsRefutedOutside rs term a b outside →
-      ((k : ℕ) → IsUsableOf a k b → MayHaveDrop a outside k → k ≤ last) → m ≡ min last to → m ≤ n → NoneUpTo n →
-      IsFirstOf (IsDropUpTo rs term a b to) None
-  none_behind_last outside last to m n refuted all is le none t h =
-      let from = none t h.0 in let within = all t.cell h.0.usable (may_have outside refuted t h.0) in let up = h.1 in
-      omega (arith, from, within, up, is, le)
-
 module _ (rs : List Require) (ms : List Automata) (b : Box) where
   -- a drop by a requirement of the first terms
   abbrev pub DropBelow : ℕ → Removal → Type 0
@@ -234,7 +223,7 @@ module _ (rs : List Require) (ms : List Automata) (b : Box) where
           };
         }
 
-    from_drop : (t : Removal) → (d : MayDrop rs (spans_of ms) b t) → d.refuted.require.term ≡ term → IsTermDrop rs term a b t
+    pub from_drop : (t : Removal) → (d : MayDrop rs (spans_of ms) b t) → d.refuted.require.term ≡ term → IsTermDrop rs term a b t
     from_drop t d e =
         let r = d.refuted.require in
         let u = usable_whole a b t.cell t.value (((spans_are_of_machines ms term a has).usable t.cell (only t.cell t.value b)).0
@@ -271,14 +260,30 @@ module _ (rs : List Require) (ms : List Automata) (b : Box) where
         first_same (λ r. DropBelow term r ⊎ IsTermDrop rs term a b r) (DropBelow (term + 1)) (earlier_of x y) joined apart
         (first_of_near (DropBelow term) (IsTermDrop rs term a b) (length b) (λ t h. h.usable.to) x y to is p q)
 
+    -- the same of the drops at one cell
+    pub first_here_more : (k : ℕ) (x y : Option Removal) → IsFirstOf (λ r. DropBelow term r × (r.cell ≡ k)) x → IsFirstOf (IsDropAt rs term a b k) y →
+        IsFirstOf (λ r. DropBelow (term + 1) r × (r.cell ≡ k)) (earlier_of x y)
+    first_here_more k x y p q =
+        first_same (λ r. (DropBelow term r × (r.cell ≡ k)) ⊎ IsDropAt rs term a b k r) (λ r. DropBelow (term + 1) r × (r.cell ≡ k)) (earlier_of x y)
+        (λ t h. ⊎_elim (λ g. (joined t (inl g.0), g.1)) (λ g. (joined t (inr g.1), g.0)) h)
+        (λ t h. ⊎_elim (λ g. inl (g, h.1)) (λ g. inr (h.1, g)) (apart t h.0))
+        (first_of_both (λ r. DropBelow term r × (r.cell ≡ k)) (IsDropAt rs term a b k) x y p q)
+
+  -- it is by a requirement of some term
+  pub term_there : (n : ℕ) → AllByRecursion (λ (r : Require). r.term < n) rs → (t : Removal) → (d : MayDrop rs (spans_of ms) b t) →
+      d.refuted.require.term < n
+  term_there n each t d = each_at (λ (r : Require). r.term < n) rs (t.require - 1) d.refuted.require each d.refuted.is.1
+
   pub first_of_all : (last n : ℕ) (x : Option Removal) → AllByRecursion (λ (r : Require). r.term < n) rs → n ≤ last → IsFirstOf (DropBelow last) x →
       IsFirstDrop rs (spans_of ms) b x
-  first_of_all last n x each l p = first_same (DropBelow last) (MayDrop rs (spans_of ms) b) x (λ t h. h.0) (λ t d. (d, below t d)) p
-    where
-      below : (t : Removal) → (d : MayDrop rs (spans_of ms) b t) → d.refuted.require.term < last
-      below t d =
-          let m = each_at (λ (r : Require). r.term < n) rs (t.require - 1) d.refuted.require each d.refuted.is.1 in
-          omega (arith, m, l)
+  first_of_all last n x each l p =
+      first_same (DropBelow last) (MayDrop rs (spans_of ms) b) x (λ t h. h.0) (λ t d. (d, (let m = term_there n each t d in omega (arith, m, l)))) p
+
+  pub first_of_all_here : (last n k : ℕ) (x : Option Removal) → AllByRecursion (λ (r : Require). r.term < n) rs → n ≤ last →
+      IsFirstOf (λ r. DropBelow last r × (r.cell ≡ k)) x → IsFirstOf (λ r. MayDrop rs (spans_of ms) b r × (r.cell ≡ k)) x
+  first_of_all_here last n k x each l p =
+      first_same (λ r. DropBelow last r × (r.cell ≡ k)) (λ r. MayDrop rs (spans_of ms) b r × (r.cell ≡ k)) x (λ t h. (h.0.0, h.1))
+      (λ t d. ((d.0, (let m = term_there n each t d.0 in omega (arith, m, l))), d.1)) p
 
 -- the machine of a term, as the code reads it from the list
 pub machine_there : (machines : List Machine) (term : ℕ) (m : Machine) → term < length machines → m ≡ get_or machines term m →

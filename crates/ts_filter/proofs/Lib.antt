@@ -23,6 +23,7 @@ pub mod SparedLaws
 pub mod KeptLaws
 mod Quiet
 mod CellLaws
+mod CourseLaws
 mod TableSteps
 mod MeetLaws
 mod EnoughEnds

@@ -25,14 +25,14 @@ use Rattle.ts_filter.specs.TermDrops.{AreLeft, IsDropAt, IsRefuting, IsRefutedOu
 use Rattle.ts_filter.proofs.BoxParts.{domain_at}
 use Rattle.ts_filter.proofs.CallLaws.{to_refuted}
 use Rattle.ts_filter.proofs.CellLaws.{left_is}
-use Rattle.ts_filter.proofs.DropLaws.{NoneUpTo, all_left, fewer_left, left_between, to_drop}
+use Rattle.ts_filter.proofs.DropLaws.{all_left, fewer_left, left_between, to_drop}
 use Rattle.ts_filter.proofs.SoundLaws.{clash}
 use Rattle.ts_filter.proofs.TermsAsked.{looks_of}
 
 -- elements of lists
 
 -- an element is the one that was put there, or was there before
-found_after_set : {X : Type 0} (xs : List X) (i j : ℕ) (x y : X) → slice_get (set xs i x) j ≡ Some y →
+pub found_after_set : {X : Type 0} (xs : List X) (i j : ℕ) (x y : X) → slice_get (set xs i x) j ≡ Some y →
     ((j ≡ i) × (i < length xs) × (y ≡ x)) ⊎ (slice_get xs j ≡ Some y)
 found_after_set [] i j x y e = absurd (none-some y e)
 found_after_set (z ∷ xs) zero zero x y e = inl (refl, omega arith, sym (same_Some x y e))
@@ -225,22 +225,11 @@ module _ (rs : List Require) (term : ℕ) (a : Automata) (b : Box) (kept : Optio
   cell_value k v box from to has =
       each_contains WithinLimits (values_at k b) v (domain_at b (k - 1) box (omega (arith, from, to))).within has
 
-  none_at : (k : ℕ) (limit : ℤ) → IsBox b → 1 ≤ k → limit ≡ spared_in kept k → greatest_value ≤ℤ limit → (r : Removal) → IsDropAt rs term a b k r → ⊥
+  -- where all values are spared there is no drop
+  pub none_at : (k : ℕ) (limit : ℤ) → IsBox b → 1 ≤ k → limit ≡ spared_in kept k → greatest_value ≤ℤ limit → (r : Removal) → IsDropAt rs term a b k r → ⊥
   none_at k limit box from is all r d =
       let c = cell_value r.cell r.value box d.1.usable.from d.1.usable.to d.1.there in let most = c.1 in
       spared_at k limit from is r c (omega (arith, ints, most, all)) d
-
-  -- a cell more without a drop
-  pub none_up_to_next : (before : ℕ) (limit : ℤ) → IsBox b → NoneUpTo rs term a b before → limit ≡ spared_in kept (before + 1) → greatest_value ≤ℤ limit →
-      NoneUpTo rs term a b (before + 1)
-  none_up_to_next before limit box none is all t d = by_cell (split t.cell (none t d))
-    where
-      split : (k : ℕ) → before < k → (k ≡ before + 1) ⊎ (before + 1 < k)
-      split k l = grind (arith, l)
-
-      by_cell : (t.cell ≡ before + 1) ⊎ (before + 1 < t.cell) → before + 1 < t.cell
-      by_cell (inl e) = absurd (none_at (before + 1) limit box (omega arith) is all t (e, d))
-      by_cell (inr l) = l
 
 -- where no value up to a limit is dropped, none of these is left to be asked
 

@@ -2,6 +2,7 @@ pub mod Accepts
 pub mod Alike
 pub mod Boxes
 pub mod CellHulls
+pub mod Courses
 pub mod Drops
 pub mod Ends
 pub mod Excluded

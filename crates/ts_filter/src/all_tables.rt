@@ -20,7 +20,8 @@ ghost use Rattle.ts_filter.specs.declared.bar.Bar.TheVariants.{Better};
 
 use crate::bar::Bar;
 use crate::box_tables::BoxTables;
-use crate::drops::{Removal, earlier, last_asked};
+use crate::courses::{Course, first_by_cells};
+use crate::drops::Removal;
 use crate::held_machine::HeldMachine;
 use crate::kept_cells::KeptCells;
 use crate::meeting::meet;
@@ -44,6 +45,7 @@ pub struct AllTables<'a> {
     pub(crate) keeps: bool,
     seen: Vec<Domain>,
     others: Others,
+    courses: Vec<Course>,
 }
 
 impl<'a> Model for AllTables<'a> {
@@ -291,7 +293,9 @@ impl<'a> AllTables<'a> {
     }
 
     /// The possible drop with the least cell, then the least value, then the least requirement; none exactly where none
-    /// is possible. Nothing is asked of a machine at the cells that are kept, nor of a value told to be free.
+    /// is possible. Nothing is asked of a machine at the cells that are kept, nor of a value told to be free. Drops are
+    /// looked for cell by cell, in all terms: no later cell is asked about. Only if no rows are kept after a question,
+    /// it is done one term after another.
     pub fn next_drop<S: Spares>(
         &mut self,
         alloc: Global,
@@ -311,15 +315,18 @@ impl<'a> AllTables<'a> {
         ensures found { IfOk result
             (λ found. IsFirstDrop requirements.now (spans_of self.old.machines) cells.now.present found) }
     {
-        let mut first = None;
-        for term in 0..self.each.len() {
-            let last = last_asked(first, cells);
-            let known = kept.of_term(term);
-            let t = term as u32;
-            let found = self.first_drop(alloc, t, requirements, last, known, spares, cells)?;
-            first = earlier(first, found);
+        if !self.keeps {
+            return self.first_by_terms(alloc, requirements, cells, kept, spares);
         }
-        Ok(first)
+        first_by_cells(
+            alloc,
+            &mut self.each,
+            &mut self.courses,
+            requirements,
+            kept,
+            spares,
+            cells,
+        )
     }
 }
 
@@ -334,6 +341,7 @@ impl<'a> AllTables<'a> {
             keeps,
             seen: Vec::new(alloc),
             others: Others::none(alloc),
+            courses: Vec::new(alloc),
         }
     }
 }

@@ -1,20 +1,22 @@
 //! Questions to the tables of one term. None compares cells: the box has been brought before.
 
 ghost use Rattle.std.specs.Prelude.{◌≡◌, ◌↔◌, ◌<◌, Contains, IfOk, IsTrue, None, length, option_map};
+ghost use Rattle.std.specs.List.{AllByRecursion};
 ghost use Rattle.ts_base.specs.Limits.{too_many};
 ghost use Rattle.ts_bound.specs.TermSpans.{LooksIn, term_span};
 ghost use Rattle.ts_domain.specs.BoxSeries.{IsCell, cell_of};
 ghost use Rattle.ts_filter.specs.Boxes.{only};
-ghost use Rattle.ts_filter.specs.Drops.{IsFirstOf};
+ghost use Rattle.ts_filter.specs.Drops.{IsFirstDrop, IsFirstOf};
 ghost use Rattle.ts_filter.specs.FirstCell.{IsFirstCell};
-ghost use Rattle.ts_filter.specs.KeptCells.{IsKeptIfKnown, Tells};
+ghost use Rattle.ts_filter.specs.KeptCells.{AreKept, IsKeptIfKnown, Tells};
+ghost use Rattle.ts_filter.specs.MachineSpans.{spans_of};
 ghost use Rattle.ts_filter.specs.OfTerm.{OfTerm};
 ghost use Rattle.ts_filter.specs.Question.{Excludes};
 ghost use Rattle.ts_filter.specs.TermDrops.{IsDropUpTo};
 
 use crate::all_tables::AllTables;
-use crate::drops::Removal;
-use crate::kept_cells::KeptTerm;
+use crate::drops::{Removal, earlier, last_asked};
+use crate::kept_cells::{KeptCells, KeptTerm};
 use crate::question::Question;
 use crate::spares::Spares;
 use crate::term_requirements::TermRequirements;
@@ -100,10 +102,43 @@ impl<'a> AllTables<'a> {
         found
     }
 
+    /// The possible drop with the least cell, then the least value, then the least requirement; none exactly where none
+    /// is possible. It is looked for one term after another, up to the cell of the one that was found before: so rows
+    /// of one term alone are there at a time.
+    pub(crate) fn first_by_terms<S: Spares>(
+        &mut self,
+        alloc: Global,
+        requirements: &[Require],
+        cells: &Boxed,
+        kept: &KeptCells,
+        spares: &S,
+    ) -> Result<Option<Removal>, Memory>
+        requires machines { length self.old.machines < too_many }
+        requires requirements { length requirements.now < too_many }
+        requires terms { AllByRecursion (λ r. r.term < length self.old.machines) requirements.now }
+        requires looks { AllByRecursion (λ a. LooksIn a cells.now.present) self.old.machines }
+        requires kept { AreKept requirements.now (spans_of self.old.machines) cells.now.present kept.now }
+        requires spares { S.knows requirements.now (spans_of self.old.machines) cells.now.present spares.now }
+        requires on { self.old.cells ≡ cells.now.present }
+        ensures same { self.new ≡ self.old }
+        ensures found { IfOk result
+            (λ found. IsFirstDrop requirements.now (spans_of self.old.machines) cells.now.present found) }
+    {
+        let mut first = None;
+        for term in 0..self.each.len() {
+            let last = last_asked(first, cells);
+            let known = kept.of_term(term);
+            let t = term as u32;
+            let found = self.first_drop(alloc, t, requirements, last, known, spares, cells)?;
+            first = earlier(first, found);
+        }
+        Ok(first)
+    }
+
     /// The first of the drops by the requirements of the term, up to cell `last`: that with the least cell, then the
     /// least value, then the least requirement. None exactly where none is possible. `kept` is what is known of the
     /// term.
-    pub(crate) fn first_drop<S: Spares>(
+    fn first_drop<S: Spares>(
         &mut self,
         alloc: Global,
         term: u32,

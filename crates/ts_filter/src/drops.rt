@@ -10,6 +10,7 @@ ghost use Rattle.ts_domain.specs.Values.{IsDomain};
 ghost use Rattle.ts_filter.specs.Drops.{IsFirstDrop, IsFirstOf};
 ghost use Rattle.ts_filter.specs.Boxes.{HasCell, values_at};
 ghost use Rattle.ts_filter.specs.CellHulls.{Serves};
+ghost use Rattle.ts_filter.specs.Courses.{IsCourse, IsStep, past_all};
 ghost use Rattle.ts_filter.specs.Question.{AsksEach};
 ghost use Rattle.ts_filter.specs.KeptCells.{AreFree, IsKeptIfKnown, IsSparedAt, Tells};
 ghost use Rattle.ts_filter.specs.KnownRows.{AreKnown, StillKnown};
@@ -19,6 +20,7 @@ ghost use Rattle.ts_filter.specs.TermDrops.{MayHaveDrop, cell_up_to, comes_befor
 
 use crate::box_tables::BoxTables;
 use crate::cell_hulls::CellHulls;
+use crate::courses::{Course, Step, first_asked};
 use crate::held_machine::HeldMachine;
 use crate::kept_cells::{KeptTerm, is_alive, spared_to};
 use crate::question::Question;
@@ -26,7 +28,6 @@ use crate::spares::{NothingSpared, Spares, Told};
 use crate::term_requirements::TermRequirements;
 use std::alloc::Global;
 use ts_base::Memory;
-use ts_base::limits::CELL_VALUE;
 use ts_domain::{Boxed, Domain};
 use ts_glue::Machine;
 use ts_model::Require;
@@ -98,9 +99,7 @@ fn drop_of_term(
 
 impl<'a> BoxTables<'a> {
     /// The first of the drops by these requirements of the term whose machine this is, up to cell `last`: that with the
-    /// least cell, then the least value, then the least requirement. None exactly where none is possible. If there was
-    /// none in any cell, the cells that are looked at aren't asked about again before one of them changes. By what is
-    /// kept of the term some needn't be asked about at all.
+    /// least cell, then the least value, then the least requirement. None exactly where none is possible.
     pub(crate) fn first_drop<S: Spares>(
         &mut self,
         alloc: Global,
@@ -119,69 +118,108 @@ impl<'a> BoxTables<'a> {
         ensures found { IfOk result (λ found. IsFirstOf
             (IsDropUpTo own.entry.all.now own.entry.term self.old.machine cells.now.present last) found) }
     {
-        let outside = self.refuted_outside(alloc, own, kept, cells)?;
-        if outside.is_none() && self.is_quiet(own) {
-            return Ok(None);
+        let mut course = self.course(alloc, own, kept, cells)?;
+        while course.before < last {
+            let step = self.step(alloc, own, course, kept, spares, cells)?;
+            if step.found.is_some() {
+                return Ok(step.found);
+            }
+            course = step.course;
         }
-        let found = self.drop_in_cells(alloc, own, outside, last, kept, spares, cells)?;
-        self.remember(alloc, own, found, last, cells)?;
-        Ok(found)
+        Ok(None)
     }
 
-    /// Remembers that there is no drop, if none was found and `last` is the last cell.
+    /// Where drops by these requirements of the term whose machine this is may be. If there was none in any cell, the
+    /// cells that are looked at aren't asked about again before one of them changes. By what is kept of the term some
+    /// needn't be asked about at all: no row is made for cells with one value, or of which all values are spared.
+    pub(crate) fn course(
+        &mut self,
+        alloc: Global,
+        own: TermRequirements<'_>,
+        kept: Option<&KeptTerm>,
+        cells: &Boxed,
+    ) -> Result<Course, Memory>
+        requires looks { LooksIn self.old.machine cells.now.present }
+        requires kept { IsKeptIfKnown own.all.now own.term self.old.machine cells.now.present
+            (option_map (λ t. t.now) kept) }
+        requires known { AreKnown cells.now.present self.old }
+        ensures known { StillKnown cells.now.present self.old self.new }
+        ensures course { IfOk result
+            (λ course. IsCourse own.entry.all.now own.entry.term self.old.machine cells.now.present course) }
+    {
+        let outside = self.refuted_outside(alloc, own, kept, cells)?;
+        if outside.is_none() && self.is_quiet(own) {
+            return Ok(Course::ended());
+        }
+        let (from, last) = self.asked_for_drops(outside, cells);
+        let before = first_asked(kept, from, last, cells);
+        let course = Course {
+            before,
+            last,
+            outside,
+        };
+        self.remember(alloc, own, course, cells)?;
+        Ok(course)
+    }
+
+    /// The first of the drops by these requirements at the next cell of the course, and the course after that.
+    pub(crate) fn step<S: Spares>(
+        &mut self,
+        alloc: Global,
+        own: TermRequirements<'_>,
+        course: Course,
+        kept: Option<&KeptTerm>,
+        spares: &S,
+        cells: &Boxed,
+    ) -> Result<Step, Memory>
+        requires going { course.before < past_all }
+        requires course { IsCourse own.all.now own.term self.old.machine cells.now.present course }
+        requires looks { LooksIn self.old.machine cells.now.present }
+        requires kept { IsKeptIfKnown own.all.now own.term self.old.machine cells.now.present
+            (option_map (λ t. t.now) kept) }
+        requires spares { Tells S.knows own.all.now own.term self.old.machine cells.now.present spares.now }
+        requires known { AreKnown cells.now.present self.old }
+        ensures known { StillKnown cells.now.present self.old self.new }
+        ensures step { IfOk result (λ step. IsStep
+            own.entry.all.now own.entry.term self.old.machine cells.now.present course step) }
+    {
+        let k = course.before + 1;
+        let limit = spared_to(kept, k);
+        let found = self.drop_at(alloc, k, own, course.outside, limit, spares, cells)?;
+        if found.is_some() {
+            return Ok(Step { found, course });
+        }
+        let before = first_asked(kept, k, course.last, cells);
+        let next = Course {
+            before,
+            last: course.last,
+            outside: course.outside,
+        };
+        self.remember(alloc, own, next, cells)?;
+        Ok(Step {
+            found,
+            course: next,
+        })
+    }
+
+    /// Remembers that there is no drop, if the course has come to its end.
     fn remember(
         &mut self,
         alloc: Global,
         own: TermRequirements<'_>,
-        found: Option<Removal>,
-        last: u32,
+        course: Course,
         cells: &Boxed,
     ) -> Result<(), Memory>
-        requires found { IsFirstOf (IsDropUpTo own.all.now own.term self.old.machine cells.now.present last) found }
+        requires course { IsCourse own.all.now own.term self.old.machine cells.now.present course }
         requires looks { LooksIn self.old.machine cells.now.present }
         requires known { AreKnown cells.now.present self.old }
         ensures known { StillKnown cells.now.present self.old self.new }
     {
-        if found.is_some() || last < cells.cells() {
+        let _cells = cells;
+        if course.before < course.last {
             return Ok(());
         }
         self.found_nothing(alloc, own)
-    }
-
-    /// The first of the drops by these requirements up to cell `last`, where `outside` is refuted outside the window.
-    /// Cells of which all values are known to be spared are passed over, so no row is made for them.
-    fn drop_in_cells<S: Spares>(
-        &mut self,
-        alloc: Global,
-        own: TermRequirements<'_>,
-        outside: Option<u32>,
-        last: u32,
-        kept: Option<&KeptTerm>,
-        spares: &S,
-        cells: &Boxed,
-    ) -> Result<Option<Removal>, Memory>
-        requires outside { IsRefutedOutside own.all.now own.term self.old.machine cells.now.present outside }
-        requires kept { IsKeptIfKnown own.all.now own.term self.old.machine cells.now.present
-            (option_map (λ t. t.now) kept) }
-        requires spares { Tells S.knows own.all.now own.term self.old.machine cells.now.present spares.now }
-        requires looks { LooksIn self.old.machine cells.now.present }
-        requires known { AreKnown cells.now.present self.old }
-        ensures known { StillKnown cells.now.present self.old self.new }
-        ensures found { IfOk result (λ found. IsFirstOf
-            (IsDropUpTo own.entry.all.now own.entry.term self.old.machine cells.now.present last) found) }
-    {
-        let (from, to) = self.asked_for_drops(outside, cells);
-        for before in from..to.min(last) {
-            let limit = spared_to(kept, before + 1);
-            if limit >= CELL_VALUE {
-                continue;
-            }
-            let found = self.drop_at(alloc, before + 1, own, outside, limit, spares, cells)?;
-            if found.is_some() {
-                return Ok(found);
-            }
-        }
-        Ok(None)
     }
 
     /// The first requirement that is refuted at each cell outside the window, whatever value it has: all these cells
@@ -233,7 +271,7 @@ impl<'a> BoxTables<'a> {
     }
 
     /// The first of the drops at cell `k`, where `outside` is refuted if that is outside the window. None is of a
-    /// value up to the limit. No row is made for a cell that has one value alone.
+    /// value up to the limit.
     fn drop_at<S: Spares>(
         &mut self,
         alloc: Global,
@@ -256,9 +294,6 @@ impl<'a> BoxTables<'a> {
     {
         if !self.looks_at(k) {
             return Ok(drop_outside(k, cells, outside));
-        }
-        if cells.cell(k).is_single() {
-            return Ok(None);
         }
         let asked = Question::each_met(own);
         self.make_at(alloc, asked, k, cells)?;

@@ -34,6 +34,7 @@ mod at_cell;
 mod bar;
 mod box_tables;
 mod cell_hulls;
+mod courses;
 mod drops;
 mod enough;
 mod enough_form;

@@ -1,52 +1,52 @@
-use Rattle.std.proofs.Common.{◌<◌, ◌≤◌, ◌∙◌, length, slice_get, subst, sym, arith}
+use Rattle.std.proofs.Common.{◌<◌, ◌∙◌, length, ap, subst, sym, arith}
+use Rattle.std.specs.List.{AllByRecursion}
+use Rattle.std.specs.Prelude.{IfOk}
 use Rattle.ts_bound.specs.TermSpans.{LooksIn}
-use Rattle.ts_filter.specs.Drops.{IsFirstOf}
-use Rattle.ts_filter.specs.KeptCells.{IsKeptIfKnown, Tells}
-use Rattle.ts_filter.specs.OfTerm.{OfTerm}
-use Rattle.ts_filter.specs.Tables.{Tables}
-use Rattle.ts_filter.specs.TermDrops.{IsDropUpTo}
-use Rattle.ts_filter.proofs.DropLaws.{first_of_all}
-use Rattle.ts_filter.proofs.SparedLaws.{kept_of, told_of_each}
-use Rattle.ts_filter.proofs.TermsAsked.{drops_more, looks_of, machines_long}
+use Rattle.ts_model.specs.declared.model.Require.{Require}
+use Rattle.ts_filter.specs.Boxes.{Box}
+use Rattle.ts_filter.specs.Drops.{IsFirstDrop}
+use Rattle.ts_filter.specs.KeptCells.{AreKept}
+use Rattle.ts_filter.specs.MachineSpans.{spans_of}
+use Rattle.ts_filter.specs.Tables.{AreRowsOfEach, Tables}
+use Rattle.ts_filter.proofs.TermsAsked.{machines_long}
 use Rattle.ts_filter.proofs.all_tables.AllTables.next_drop.Goals as goal
 
-pub first_drop-requires-clause-looks : goal.first_drop-requires-clause-looks
-first_drop-requires-clause-looks g c =
-    let b = c.args.cells.now.present in
-    subst (λ (t : Tables). OfTerm t.machines c.loop-term.term (λ a. LooksIn a b)) (sym c.loop-term.invariant.same)
-    (looks_of b c.args.self.now.machines c.loop-term.term c.requires.looks)
+pub first_by_cells-requires-clause-machines : goal.first_by_cells-requires-clause-machines
+first_by_cells-requires-clause-machines g c =
+    let long = machines_long c.self.inside.each.items c.self.view_is in let few = c.requires.machines in omega (arith, long, few)
 
-pub first_drop-requires-clause-kept : goal.first_drop-requires-clause-kept
-first_drop-requires-clause-kept g c =
-    let rs = c.args.requirements.now in let b = c.args.cells.now.present in let term = c.loop-term.term in let kept = c.args.kept.now in
-    subst (λ o. OfTerm c.loop-term.self.machines term (λ a. IsKeptIfKnown rs term a b o)) (sym c.of_term-known.ensures)
-    (subst (λ (t : Tables). OfTerm t.machines term (λ a. IsKeptIfKnown rs term a b (slice_get kept term))) (sym c.loop-term.invariant.same)
-    (kept_of rs c.args.self.now.machines b kept c.requires.kept term c.requires.looks))
+pub first_by_cells-requires-clause-terms : goal.first_by_cells-requires-clause-terms
+first_by_cells-requires-clause-terms g c =
+    subst (λ (t : Tables). AllByRecursion (λ (r : Require). r.term < length t.machines) c.args.requirements.now) (sym c.self.view_is) c.requires.terms
 
-pub loop-term-preserved : goal.loop-term-preserved
-loop-term-preserved g c =
-    let rs = c.args.requirements.now in let all = c.args.self.now.machines in let b = c.args.cells.now.present in let term = c.loop-term.term in
-    let long = machines_long c.self.inside.each.items c.self.view_is in
-    let below : term < length all = omega (arith, long, c.loop-term-test.true, c.len-term-end.ensures) in
-    record {
-      same = c.first_drop.ensures.same ∙ c.loop-term.invariant.same;
-      first = drops_more rs all b term c.last_asked-last.result c.loop-term.first c.in_ok-found.found c.earlier-first.result below
-          c.requires.looks c.last_asked-last.ensures c.loop-term.invariant.first
-          (subst (λ (t : Tables). OfTerm t.machines term (λ a. IsFirstOf (IsDropUpTo rs term a b c.last_asked-last.result) c.in_ok-found.found))
-          c.loop-term.invariant.same c.in_ok-found.ensures.found)
-          c.earlier-first.ensures;
-    }
+pub first_by_cells-requires-clause-looks : goal.first_by_cells-requires-clause-looks
+first_by_cells-requires-clause-looks g c =
+    subst (λ (t : Tables). AllByRecursion (λ a. LooksIn a c.args.cells.now.present) t.machines) (sym c.self.view_is) c.requires.looks
+
+pub first_by_cells-requires-clause-kept : goal.first_by_cells-requires-clause-kept
+first_by_cells-requires-clause-kept g c =
+    subst (λ (t : Tables). AreKept c.args.requirements.now (spans_of t.machines) c.args.cells.now.present c.args.kept.now) (sym c.self.view_is)
+    c.requires.kept
+
+pub first_by_cells-requires-clause-spares : goal.first_by_cells-requires-clause-spares
+first_by_cells-requires-clause-spares g c =
+    subst (λ (t : Tables). g.S.Spares.knows c.args.requirements.now (spans_of t.machines) c.args.cells.now.present c.args.spares.now) (sym c.self.view_is)
+    c.requires.spares
+
+pub first_by_cells-requires-clause-known : goal.first_by_cells-requires-clause-known
+first_by_cells-requires-clause-known g c =
+    subst (λ (z : Box). AreRowsOfEach z c.self.inside.each.items) (ap (λ (t : Tables). t.cells) c.self.view_is ∙ c.requires.on) c.self.invariant
+
+pub invariant_of-self : goal.invariant_of-self
+invariant_of-self g c =
+    subst (λ (z : Box). AreRowsOfEach z c.first_by_cells.new.each.items) (sym (ap (λ (t : Tables). t.cells) c.self.view_is ∙ c.requires.on))
+    c.first_by_cells.ensures.known
+
+pub returns-clause-same : goal.returns-clause-same
+returns-clause-same g c =
+    ap (λ l. record { machines = l; cells = c.self.inside.seen.items }) c.first_by_cells.ensures.machines ∙ c.self.view_is
 
 pub returns-clause-found : goal.returns-clause-found
 returns-clause-found g c =
-    let all = c.args.self.now.machines in
-    let long = machines_long c.self.inside.each.items c.self.view_is in
-    let end : length all ≤ c.loop-term.term = omega (arith, long, c.loop-term-test.false, c.len-term-end.ensures) in
-    first_of_all c.args.requirements.now all c.args.cells.now.present c.loop-term.term _ c.loop-term.first c.requires.terms end
-    c.loop-term.invariant.first
-
-pub first_drop-requires-clause-spares : goal.first_drop-requires-clause-spares
-first_drop-requires-clause-spares g c =
-    let rs = c.args.requirements.now in let b = c.args.cells.now.present in let term = c.loop-term.term in
-    subst (λ (t : Tables). OfTerm t.machines term (λ a. Tells g.S.Spares.knows rs term a b c.args.spares.now)) (sym c.loop-term.invariant.same)
-    (told_of_each g.S.Spares.knows rs c.args.self.now.machines b c.args.spares.now c.requires.spares term c.requires.looks)
+    subst (λ (t : Tables). IfOk c.first_by_cells.result
+    (λ found. IsFirstDrop c.args.requirements.now (spans_of t.machines) c.args.cells.now.present found)) c.self.view_is c.first_by_cells.ensures.found

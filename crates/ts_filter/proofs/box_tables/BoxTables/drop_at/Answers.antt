@@ -1,8 +1,8 @@
-use Rattle.std.proofs.Common.{length, ap, sym, ◌∙◌, subst}
+use Rattle.std.proofs.Common.{sym, ◌∙◌, subst}
 use Rattle.ts_filter.specs.CellHulls.{AtCell, Serves}
 use Rattle.ts_filter.specs.Drops.{IsFirstOf}
 use Rattle.ts_filter.specs.TermDrops.{IsDropAt}
-use Rattle.ts_filter.proofs.DropLaws.{least_outside, no_drop_of_one}
+use Rattle.ts_filter.proofs.DropLaws.{least_outside}
 use Rattle.ts_filter.proofs.box_tables.BoxTables.drop_at.Goals as goal
 
 pub returns-then-not-looks_at-clause-found : goal.returns-then-not-looks_at-clause-found
@@ -11,13 +11,6 @@ returns-then-not-looks_at-clause-found g c =
     subst (IsFirstOf (IsDropAt own.all.now own.term a b c.args.k)) (sym c.drop_outside.ensures.least)
     (least_outside own.all.now own.term a b c.args.k c.args.outside c.requires.usable (sym c.looks_at.ensures ∙ c.if-not-looks_at.true) c.requires.outside
     c.drop_outside.ensures.domain.rising)
-
--- the only value of a cell isn't dropped
-pub returns-then-is_single-clause-found : goal.returns-then-is_single-clause-found
-returns-then-is_single-clause-found g c =
-    let own = c.args.own in
-    no_drop_of_one own.all.now own.term c.args.self.now.machine c.args.cells.now.present c.args.k
-    (ap length (sym c.cell.ensures) ∙ c.is_single.ensures.0 c.if-is_single.true)
 
 pub drop_in_cell-found-requires-clause-serves : goal.drop_in_cell-found-requires-clause-serves
 drop_in_cell-found-requires-clause-serves g c =
