@@ -255,7 +255,7 @@ after_place (x ∷ values) (suc i) zero v limit rises after e at =
 after_place (x ∷ values) (suc i) (suc p) v limit rises after e at =
     after_place values i p v limit rises.1 (let l = after in omega (arith, l)) e at
 
--- the values are gone through one by one
+-- the values up to a limit are found by halving
 
 abbrev pub AreUpTo : List ℤ → ℕ → ℤ → Type 0
 AreUpTo values count limit = (i : ℕ) (v : ℤ) → i < count → slice_get values i ≡ Some v → v ≤ℤ limit
@@ -266,18 +266,9 @@ AreAbove values count limit = (i : ℕ) (v : ℤ) → count ≤ i → slice_get 
 pub nothing_before : (values : List ℤ) (limit : ℤ) → AreUpTo values 0 limit
 nothing_before values limit i v l e = absurd (omega (arith, l))
 
-pub one_more_up_to : (values : List ℤ) (count : ℕ) (w limit : ℤ) → AreUpTo values count limit → slice_get values count ≡ Some w → w ≤ℤ limit →
+pub all_up_to : (values : List ℤ) (count : ℕ) (w limit : ℤ) → IsRising values → slice_get values count ≡ Some w → w ≤ℤ limit →
     AreUpTo values (count + 1) limit
-one_more_up_to values count w limit up at below i v l e = by_place (split i l)
-  where
-    split : (i : ℕ) → i < count + 1 → (i ≡ count) ⊎ (i < count)
-    split i l = grind (arith, l)
-
-    by_place : (i ≡ count) ⊎ (i < count) → v ≤ℤ limit
-    by_place (inl s) =
-        let same : w ≡ v = same_Some w v (sym at ∙ subst (λ n. slice_get values n ≡ Some v) s e) in
-        subst (λ z. z ≤ℤ limit) same below
-    by_place (inr s) = up i v s e
+all_up_to values count w limit rises at most i v l e = let no_more = up_to_place values i count v w rises l e at in omega (arith, ints, no_more, most)
 
 pub all_above : (values : List ℤ) (count : ℕ) (w limit : ℤ) → IsRising values → slice_get values count ≡ Some w → limit <ℤ w → AreAbove values count limit
 all_above values count w limit rises at more i v l e =

@@ -443,7 +443,7 @@ fn first_between(
     (None, count)
 }
 
-/// How many values come first that are at most the limit. It may lie in a gap between two of them.
+/// How many values come first that are at most the limit. It may lie in a gap between two of them, found by halving.
 fn count_up_to(values: &Domain, limit: i64) -> u64
     ensures to { result ≤ length values.now }
     ensures below { (i : ℕ) (v : ℤ) → i < result → slice_get values.now i ≡ Some v → v ≤ℤ limit }
@@ -457,12 +457,18 @@ fn count_up_to(values: &Domain, limit: i64) -> u64
     if values.ends().high <= limit {
         return size;
     }
-    for i in 0..size {
-        if limit < values.nth(i) {
-            return i;
+    let mut from = 0;
+    let mut to = size;
+    while from < to {
+        let middle = from + (to - from) / 2;
+        let value = values.nth(middle);
+        if value <= limit {
+            from = middle + 1;
+        } else {
+            to = middle;
         }
     }
-    size
+    from
 }
 
 /// The drop of the least value of cell `k` by a requirement that is refuted whatever value the cell has.

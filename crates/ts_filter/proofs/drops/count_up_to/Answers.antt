@@ -2,7 +2,7 @@ use mir.Val.{SFits}
 use Rattle.std.proofs.Common.{◌≡◌, ◌<ℤ◌, ◌≤ℤ◌, Some, slice_get, subst, w64, arith, to_z, of_z, rules}
 use Rattle.std.proofs.lemmas.Int.{ints, to_z-of_z}
 use Rattle.ts_domain.proofs.MarkedSets.{at_contains}
-use Rattle.ts_filter.proofs.SparedLaws.{AreUpTo, after_place, all_above, none_above, nothing_before, one_more_up_to, up_to_place}
+use Rattle.ts_filter.proofs.SparedLaws.{AreUpTo, after_place, all_above, all_up_to, none_above, nothing_before, up_to_place}
 use Rattle.ts_filter.proofs.drops.count_up_to.Goals as goal
 
 pub returns-then-contains-clause-below : goal.returns-then-contains-clause-below
@@ -28,36 +28,53 @@ pub returns-then-ends-limit-clause-above : goal.returns-then-ends-limit-clause-a
 returns-then-ends-limit-clause-above c =
     let size = c.size-size.ensures.size in none_above c.args.values.now c.size-size.result c.args.limit (omega (arith, size))
 
-pub loop-i-init : goal.loop-i-init
-loop-i-init c = nothing_before c.args.values.now (to_z w64 (of_z w64 c.args.limit))
+pub loop-from-init : goal.loop-from-init
+loop-from-init c =
+    let size = c.size-size.ensures.size in let limit = to_z w64 (of_z w64 c.args.limit) in record {
+      order = omega arith;
+      within = omega (arith, size);
+      below = nothing_before c.args.values.now limit;
+      above = none_above c.args.values.now c.size-size.result limit (omega (arith, size));
+    }
 
-pub returns-then-limit-nth-clause-below : goal.returns-then-limit-nth-clause-below
-returns-then-limit-nth-clause-below c =
-    subst (AreUpTo c.args.values.now c.loop-i.i) (to_z-of_z w64 c.args.limit c.ranges.limit) c.loop-i.invariant
+pub nth-value-requires : goal.nth-value-requires
+nth-value-requires c = let within = c.loop-from.invariant.within in let test = c.loop-from-test.true in omega (arith, within, test)
 
-pub returns-then-limit-nth-clause-above : goal.returns-then-limit-nth-clause-above
-returns-then-limit-nth-clause-above c =
-    let fits : SFits w64 c.nth.result = search rules in
-    let limit = to_z-of_z w64 c.args.limit c.ranges.limit in
-    let more : c.args.limit <ℤ c.nth.result =
-    subst (λ z. z <ℤ c.nth.result) limit (subst (λ z. to_z w64 (of_z w64 c.args.limit) <ℤ z) (to_z-of_z w64 c.nth.result fits)
-    (let less = c.if-limit-nth.true in grind (arith, ints, less))) in
-    all_above c.args.values.now c.loop-i.i c.nth.result c.args.limit c.size-size.ensures.domain.rising c.nth.ensures more
+pub loop-from-preserved-then-value-limit : goal.loop-from-preserved-then-value-limit
+loop-from-preserved-then-value-limit c =
+    let h = c.loop-from.invariant in let within = h.within in let test = c.loop-from-test.true in
+    let fits : SFits w64 c.nth-value.result = search rules in
+    let less : to_z w64 (of_z w64 c.nth-value.result) ≤ℤ to_z w64 (of_z w64 c.args.limit) = let most = c.if-value-limit.true in grind (arith, ints, most) in
+    record {
+      order = omega (arith, test);
+      within = within;
+      below = all_up_to c.args.values.now _ c.nth-value.result (to_z w64 (of_z w64 c.args.limit)) c.size-size.ensures.domain.rising c.nth-value.ensures
+          (subst (λ z. z ≤ℤ to_z w64 (of_z w64 c.args.limit)) (to_z-of_z w64 c.nth-value.result fits) less);
+      above = h.above;
+    }
 
-pub loop-i-preserved : goal.loop-i-preserved
-loop-i-preserved c =
-    let fits : SFits w64 c.nth.result = search rules in
-    let no_more : to_z w64 (of_z w64 c.nth.result) ≤ℤ to_z w64 (of_z w64 c.args.limit) = let less = c.if-limit-nth.false in grind (arith, ints, less) in
-    one_more_up_to c.args.values.now c.loop-i.i c.nth.result (to_z w64 (of_z w64 c.args.limit)) c.loop-i.invariant c.nth.ensures
-    (subst (λ z. z ≤ℤ to_z w64 (of_z w64 c.args.limit)) (to_z-of_z w64 c.nth.result fits) no_more)
+pub loop-from-preserved : goal.loop-from-preserved
+loop-from-preserved c =
+    let h = c.loop-from.invariant in let within = h.within in let test = c.loop-from-test.true in
+    let fits : SFits w64 c.nth-value.result = search rules in
+    let more : to_z w64 (of_z w64 c.args.limit) <ℤ to_z w64 (of_z w64 c.nth-value.result) =
+    let over = c.if-value-limit.false in grind (arith, ints, over) in record {
+      order = omega (arith, test);
+      within = omega (arith, within, test);
+      below = h.below;
+      above = all_above c.args.values.now _ c.nth-value.result (to_z w64 (of_z w64 c.args.limit)) c.size-size.ensures.domain.rising c.nth-value.ensures
+          (subst (λ z. to_z w64 (of_z w64 c.args.limit) <ℤ z) (to_z-of_z w64 c.nth-value.result fits) more);
+    }
+
+pub returns-clause-to : goal.returns-clause-to
+returns-clause-to c = let h = c.loop-from.invariant in let order = h.order in let within = h.within in omega (arith, order, within)
 
 pub returns-clause-below : goal.returns-clause-below
 returns-clause-below c =
-    let to = c.loop-i-test.false in let end = c.loop-i.auto.i-end in
-    let whole : c.loop-i.i ≡ c.size-size.result = omega (arith, to, end) in
-    subst (λ n. AreUpTo c.args.values.now n c.args.limit) whole
-    (subst (AreUpTo c.args.values.now c.loop-i.i) (to_z-of_z w64 c.args.limit c.ranges.limit) c.loop-i.invariant)
+    subst (AreUpTo c.args.values.now c.loop-from.from) (to_z-of_z w64 c.args.limit c.ranges.limit) c.loop-from.invariant.below
 
 pub returns-clause-above : goal.returns-clause-above
-returns-clause-above c =
-    let size = c.size-size.ensures.size in none_above c.args.values.now c.size-size.result c.args.limit (omega (arith, size))
+returns-clause-above c = λ i v after at.
+    let limit = to_z-of_z w64 c.args.limit c.ranges.limit in
+    subst (λ z. z <ℤ v) limit
+    (c.loop-from.invariant.above i v (let over = c.loop-from-test.false in omega (arith, over, after)) at)
