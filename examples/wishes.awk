@@ -219,7 +219,7 @@ function wanted() {
     if (is("no climb of more than 40, with its level hours")) return farthest_climb(1) <= 40
     if (is("no ripple: each climb and each descent is of at least 20"))
         return shortest_climb(1) >= 20 && shortest_climb(-1) >= 20
-    if (is("no hill higher than 40 above one of its feet, and no climb or descent at an end either"))
+    if (is("no hill higher than 40 above either of its feet, and no climb or descent at an end either"))
         return highest_hill() <= 40 && end_climb() <= 40
     if (is("the hours of a hill, its feet aside, differ by at most 2")) { hills(1); return widest_part() <= 2 }
     if (is("from hour 2 to hour 5 the level drifts by at most 2, all one way")) return drifts_one_way(2, 5, 2)
