@@ -5,7 +5,7 @@ use Rattle.ts_filter.specs.Boxes.{Box, low_side, high_side, without}
 -- the waiting boxes, the next one first; ready: the next one is the present one
 pub record Waiting : Type 0 where
   pub ready : Bool
-  pub boxes : List (List (List ℤ))
+  pub boxes : List Box
 
 -- the next box; where none waits, one without cells
 abbrev pub first : List Box → Box
