@@ -1,5 +1,6 @@
 //! The machine of each of the 22 patterns answers the value of each series of `terms`, under all sixteen pairs of
-//! aggregator and feature; and that of a pattern that has a partner gives it wherever the series is split.
+//! aggregator and feature; and that of a pattern that has a partner gives it wherever the series is split, and its
+//! reverse automaton answers it on the series read from the end.
 
 ghost use Rattle.std.specs.Prelude.{◌≤◌, ◌<◌, length};
 ghost use Rattle.ts_automaton.specs.AutomatonRun.{Stands, standing_of};
@@ -54,7 +55,17 @@ pub fn has_partner(pattern: PatternId) -> bool {
     )
 }
 
-/// Whether the value is glued at each cell.
+/// What the reverse automaton answers on the series, read from its end. None where the machine can't be split.
+fn reverse_answer(machine: &Machine, series: &[i64]) -> Option<Ext>
+    requires some { 1 ≤ length series.now }
+    requires few { length series.now ≤ 100000 }
+{
+    let reverse = machine.reverse()?;
+    let at = reverse_at(reverse, series, 1);
+    Some(reverse.finish(at, series.len() as u32))
+}
+
+/// Whether the value is glued at each cell, and is the reverse automaton's answer.
 pub fn is_glued(machine: &Machine, series: &[i64], wanted: Ext) -> bool
     requires { length series.now ≤ 100000 }
 {
@@ -63,7 +74,7 @@ pub fn is_glued(machine: &Machine, series: &[i64], wanted: Ext) -> bool
             return false;
         }
     }
-    true
+    series.is_empty() || reverse_answer(machine, series) == Some(wanted)
 }
 
 /// Whether the machine answers the value, and where it can be split it is glued at each cell.

@@ -1,6 +1,6 @@
 //! The feature `range` on all series of five cells from 0 to 2: a digest of the 243 values of each pattern and
 //! aggregator, which a program outside worked out by the definition, from all parts of each signature. The machine
-//! answers them, and where it can be split they are glued at each cell.
+//! answers them, and where it can be split they are glued at each cell, and its reverse automaton answers them, too.
 
 ghost use Rattle.std.specs.Prelude.{◌<◌};
 
