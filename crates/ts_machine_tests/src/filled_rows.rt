@@ -1,6 +1,6 @@
-//! Rows that the call without memory makes, each from the row before it in the table of a box. The automata and boxes
-//! are those of `told`, where rows of these tables are compared with values from outside: wide and narrow automata,
-//! cells with gaps and without, and numbers that sweeps don't take.
+//! Rows that the call without memory makes, each from the row before it in the table of a box, which lends both. The
+//! automata and boxes are those of `told`, where rows of these tables are compared with values from outside: wide and
+//! narrow automata, cells with gaps and without, and numbers that sweeps don't take.
 
 ghost use Rattle.std.specs.Prelude.{◌≡◌, ◌≤◌, None, length};
 ghost use Rattle.ts_bound.specs.HullTables.{forward_table};
@@ -28,7 +28,11 @@ fn stale() -> Hull {
     }
 }
 
-/// Whether the row of cell `k`, made from that of the cell before, is the one of the table.
+fn is_same(row: &[Hull], other: &[Hull]) -> bool {
+    row == other
+}
+
+/// Whether the row of cell `k`, made from that of the cell before in another table of the box, is the one of the table.
 fn row_is_filled(
     alloc: Global,
     m: &Machine,
@@ -43,17 +47,11 @@ fn row_is_filled(
 {
     let a = m.forward();
     a.states();
-    let wanted = table.row(k);
-    let mut filled = Vec::from_elem(alloc, stale(), wanted.len())?;
-    let before = table.row(k - 1);
-    fill_row(
-        a,
-        cells.cell(k - 1),
-        before,
-        cells.cell(k),
-        filled.as_mut_slice(),
-    );
-    Ok(filled.as_slice() == wanted)
+    let mut filled = forward(alloc, m, cells)?;
+    let (before, next) = filled.rows(k - 1);
+    next.fill(stale());
+    fill_row(a, cells.cell(k - 1), before, cells.cell(k), next);
+    Ok(is_same(next, table.row(k)))
 }
 
 fn rows_are_filled(alloc: Global, m: &Machine, cells: &Boxed) -> Result<bool, Memory>
