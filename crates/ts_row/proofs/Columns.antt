@@ -2,10 +2,10 @@
 use Rattle.std.proofs.Common.{◌≡◌, ◌⊎◌, inl, inr, ℕ, zero, suc, min, ◌+◌, ◌-◌, ◌*◌, ◌<◌, ◌≤◌, List, [], ◌++◌, length, get_or, set, slice_range, map, take, drop, replicate, refl, sym, ap, subst, ◌∙◌, arith}
 use Rattle.std.specs.List.{remove_range}
 use Rattle.std.proofs.lemmas.Bool.{cases_lt, cases_order}
-use Rattle.std.proofs.lemmas.List.{get_or-append_right, get_or-drop, get_or-map, get_or-replicate, get_or-take, get_or_append_left, get_or_default, length-append, length-drop, length-map, length-replicate, length-set, length-take, length-take-le, replicate-append-replicate, same_lists, take_all, take_at}
+use Rattle.std.proofs.lemmas.List.{get_or-append_right, get_or-drop, get_or-map, get_or-replicate, get_or-take, get_or_append_left, get_or_default, length-append, length-drop, length-map, length-replicate, length-set, length-take, length-take-le, same_lists, take_at}
 use Rattle.std.proofs.Math.Seq.{take-nil}
 use Rattle.std.proofs.lemmas.List.FromFn.{get_or-map-range_with_len, length-map-range_with_len}
-use Rattle.ts_row.specs.Rows.{IsReset, columns_in, nothing}
+use Rattle.ts_row.specs.Rows.{IsCleared, columns_in, nothing}
 use Rattle.ts_row.proofs.Parts.{part_at, part_length}
 use Rattle.ts_row.proofs.Places.{at_each}
 use Rattle.ts_sweep.specs.declared.packed.PackedHull.{PackedHull}
@@ -267,58 +267,39 @@ module _ {X : Type 0} (states stride count from to : ℕ) (old : List (List X)) 
           let front = length-take from column in
           length-append (take from column) (drop to column) ∙ omega (arith, rest, front, order, past, long)
 
--- a list that is filled with copies of one hull, and then with nothing
-pub reset_items : (n count all : ℕ) (first : PackedHull n) (xs a b : List (PackedHull n)) (la lb : ℕ) → count ≤ all → xs ≡ [] → la ≡ 0 →
-    a ≡ take count xs ++ replicate (count - la) first → lb ≡ count → b ≡ take all a ++ replicate (all - lb) (nothing n) →
-    b ≡ replicate count first ++ replicate (all - count) (nothing n)
-reset_items n count all first xs a b la lb fits none start made long rest =
-    let filled : a ≡ replicate count first =
-    made ∙ ap (λ z. take count z ++ replicate (count - la) first) none ∙ ap (λ z. z ++ replicate (count - la) first) (take-nil count)
-    ∙ ap (λ k. replicate k first) (let e : count - la ≡ count = omega (arith, start) in e) in
-    rest ∙ ap (λ z. take all z ++ replicate (all - lb) (nothing n)) filled
-    ∙ ap (λ z. z ++ replicate (all - lb) (nothing n)) (take_all all (replicate count first) (let e = length-replicate count first in omega (arith, e, fits)))
-    ∙ ap (λ k. replicate count first ++ replicate (all - k) (nothing n)) long
-
 -- a list that is filled with nothing
-pub cleared_items : (n count all : ℕ) (h : PackedHull n) (xs b : List (PackedHull n)) (la : ℕ) → count ≤ all → xs ≡ [] → la ≡ 0 →
-    b ≡ take all xs ++ replicate (all - la) h → h ≡ nothing n → b ≡ replicate count (nothing n) ++ replicate (all - count) (nothing n)
-cleared_items n count all h xs b la fits none start made is =
+pub cleared_items : (n all : ℕ) (h : PackedHull n) (xs b : List (PackedHull n)) (la : ℕ) → xs ≡ [] → la ≡ 0 →
+    b ≡ take all xs ++ replicate (all - la) h → h ≡ nothing n → b ≡ replicate all (nothing n)
+cleared_items n all h xs b la none start made is =
     made ∙ ap (λ z. take all z ++ replicate (all - la) h) none ∙ ap (λ z. z ++ replicate (all - la) h) (take-nil all)
-    ∙ ap (replicate (all - la)) is ∙ ap (λ k. replicate k (nothing n)) (let e : all - la ≡ count + (all - count) = omega (arith, start, fits) in e)
-    ∙ sym (replicate-append-replicate count (all - count) (nothing n))
+    ∙ ap (replicate (all - la)) is ∙ ap (λ k. replicate k (nothing n)) (let e : all - la ≡ all = omega (arith, start) in e)
 
--- a row just made
-module _ (n states count all : ℕ) (first : PackedHull n) (xs : List (PackedHull n)) (some : 0 < states) (product : all ≡ states * count)
-    (is : xs ≡ replicate count first ++ replicate (all - count) (nothing n)) where
-  reset_long : length xs ≡ states * count
-  reset_long =
-      let front = length-replicate count first in
-      let rest = length-replicate (all - count) (nothing n) in
-      let ends = column_ends count 0 states some in
-      ap length is ∙ length-append (replicate count first) (replicate (all - count) (nothing n)) ∙ omega (arith, front, rest, ends, product)
+-- a row of nothing
+module _ (n states count all : ℕ) (xs : List (PackedHull n)) (product : all ≡ states * count) (is : xs ≡ replicate all (nothing n)) where
+  cleared_long : length xs ≡ states * count
+  cleared_long = ap length is ∙ length-replicate all (nothing n) ∙ product
 
-  pub are_reset : IsReset n states count first (columns_in states count count xs)
-  are_reset = record {
+  pub are_cleared : IsCleared n states count (columns_in states count count xs)
+  are_cleared = record {
     len = columns_length states count count xs;
-    start = (
-      column_length states count count xs (omega (arith, reset_long)) (omega arith) 0 some,
-      λ i less. place_is states count count xs 0 i (nothing n) some less ∙ ap (λ k. get_or xs k (nothing n)) (let e : 0 * count + i ≡ i = omega arith in e)
-          ∙ ap (λ z. get_or z i (nothing n)) is
-          ∙ get_or_append_left (replicate count first) (replicate (all - count) (nothing n)) (nothing n) i
-          (let front = length-replicate count first in omega (arith, front, less))
-          ∙ get_or-replicate count i first (nothing n) less,
-    );
-    others = λ q more lt. (
-      column_length states count count xs (omega (arith, reset_long)) (omega arith) q lt,
-      λ i less.
-          let start = column_ends count 0 q more in
-          let ends = column_ends count q states lt in
-          place_is states count count xs q i (nothing n) lt less ∙ ap (λ z. get_or z (q * count + i) (nothing n)) is
-          ∙ get_or-append_right (replicate count first) (replicate (all - count) (nothing n)) count (q * count + i) (nothing n)
-          (length-replicate count first) (omega (arith, start))
-          ∙ get_or-replicate (all - count) (q * count + i - count) (nothing n) (nothing n) (omega (arith, start, ends, less, product)),
+    columns = λ q lt. (
+      column_length states count count xs (let long = cleared_long in omega (arith, long)) (omega arith) q lt,
+      λ i less. place_is states count count xs q i (nothing n) lt less ∙ ap (λ z. get_or z (q * count + i) (nothing n)) is
+          ∙ get_or-replicate all (q * count + i) (nothing n) (nothing n)
+          (let ends = column_ends count q states lt in omega (arith, ends, less, product)),
     );
   }
 
-  pub reset_room : states * count ≤ length xs
-  reset_room = let long = reset_long in omega (arith, long)
+-- a row whose list is lent, and whose first column is filled with copies of one hull
+pub first_filled : {X : Type 0} (states stride count : ℕ) (xs borrowed new : List X) (row : List (List X)) (first : X) (len : ℕ) →
+    states * stride ≤ length xs → count ≤ stride → columns_in states stride count xs ≡ row → 0 < length row → borrowed ≡ xs → length xs ≡ len →
+    new ≡ replicate count first ++ drop count borrowed →
+    columns_in states stride count (take len (new ++ drop (length new) xs)) ≡ set row 0 (replicate (length (get_or row 0 [])) first)
+first_filled states stride count xs borrowed new row first len room few view some lent all is =
+    let k = length (get_or row 0 []) in
+    let lt = known_state states stride count xs row view 0 some in
+    let long : k ≡ count = ap (λ z. length (get_or z 0 [])) (sym view) ∙ column_length states stride count xs room few 0 lt in
+    let at : 0 * stride ≡ 0 = omega arith in
+    row_written states stride count k xs borrowed row 0 room few view some lent refl (replicate k first) new len all (length-replicate k first)
+    (is ∙ ap (λ i. replicate i first ++ drop i borrowed) (sym long)
+    ∙ ap (λ i. take i borrowed ++ (replicate k first ++ drop k (drop i borrowed))) (sym at))

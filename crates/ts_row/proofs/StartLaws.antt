@@ -1,8 +1,9 @@
 -- Where runs start.
-use Rattle.std.proofs.Common.{◌≡◌, ℕ, zero, suc, ◌<◌, ◌≤◌, ◌⊎◌, inl, inr, Bool, true, false, cond, ◌&&◌, ◌||◌, int_eq, ℤ, pos, None, Some, List, [], get_or, replicate, refl, sym, ap, subst, ◌∙◌, arith}
+use Rattle.std.proofs.Common.{◌≡◌, ℕ, zero, suc, ◌<◌, ◌≤◌, ◌⊎◌, inl, inr, Bool, true, false, cond, ◌&&◌, ◌||◌, int_eq, ℤ, pos, None, Some, List, [], get_or, length, replicate, set, refl, sym, ap, subst, ◌∙◌, arith}
 use Rattle.std.proofs.Math.Dec.{eqb-suc-zero}
 use Rattle.std.proofs.lemmas.Bool.{and_parts}
 use Rattle.std.proofs.lemmas.Int.{ints}
+use Rattle.std.proofs.lemmas.List.{get_or-replicate, get_or-set_other, get_or-set_same, length-replicate, length-set}
 use Rattle.ts_base.specs.declared.ext.Ext.{Ext}
 use Rattle.ts_base.specs.declared.ext.Ext.TheVariants.{NegInf, Int, PosInf}
 use Rattle.ts_base.specs.declared.span.Span.{Span}
@@ -12,7 +13,7 @@ use Rattle.ts_automaton.specs.Registers.{EachOf, rests}
 use Rattle.ts_automaton.specs.SpanRun.{one_hull}
 use Rattle.ts_automaton.specs.Typing.{each_is, is_constant, is_number_zero}
 use Rattle.ts_hull.specs.Hulls.{hull_of, none}
-use Rattle.ts_row.specs.Rows.{AreAll, IsColumn, IsHull, IsReset, IsRow, hull_in, lanes_of, nothing, start_hull}
+use Rattle.ts_row.specs.Rows.{AreAll, IsCleared, IsColumn, IsHull, IsRow, hull_in, lanes_of, nothing, start_hull}
 use Rattle.ts_sweep.specs.declared.packed.Ends.{Ends}
 use Rattle.ts_sweep.specs.declared.packed.Name.{Name}
 use Rattle.ts_sweep.specs.declared.packed.PackedHull.{PackedHull}
@@ -86,25 +87,33 @@ column_packed : (n k : ℕ) (h : PackedHull n) (column : List (PackedHull n)) �
 column_packed n k h column packed all = (all.0, λ i lt. subst (λ z. IsPacked (lane_count n) (lanes_of n z)) (sym (all.1 i lt)) packed)
 
 -- the start registers in the first column, and nothing in the others
-module _ (n s k : ℕ) (b : Body) (h : PackedHull n) (new : List (List (PackedHull n))) (big : 6 ≤ lane_count n) (is : IsReset n s k h new)
-    (start : IsHull n (hull_of (one_hull b.start)) h) where
+module _ (n s k : ℕ) (b : Body) (h : PackedHull n) (row new : List (List (PackedHull n))) (big : 6 ≤ lane_count n) (some : 0 < s) (is : IsCleared n s k row)
+    (begun : new ≡ set row 0 (replicate (length (get_or row 0 [])) h)) (start : IsHull n (hull_of (one_hull b.start)) h) where
+  made : new ≡ set row 0 (replicate k h)
+  made = begun ∙ ap (λ i. set row 0 (replicate i h)) (is.columns 0 some).0
+
+  first : AreAll n h k (get_or new 0 [])
+  first =
+      let long = is.len in
+      let here = ap (λ z. get_or z 0 []) made ∙ get_or-set_same row 0 (replicate k h) [] (omega (arith, long, some)) in
+      (ap length here ∙ length-replicate k h, λ i less. ap (λ z. get_or z i (nothing n)) here ∙ get_or-replicate k i h (nothing n) less)
+
+  other : (q : ℕ) → 0 < q → q < s → AreAll n (nothing n) k (get_or new q [])
+  other q more lt =
+      subst (AreAll n (nothing n) k)
+      (sym (ap (λ z. get_or z q []) made ∙ get_or-set_other row 0 q (replicate k h) [] (λ e. omega (arith, e, more)))) (is.columns q lt)
+
   columns : (q : ℕ) → q < s → IsColumn n k (get_or new q [])
-  columns zero lt = column_packed n k h (get_or new 0 []) start.0 is.start
-  columns (suc q) lt = column_packed n k (nothing n) (get_or new (suc q) []) (inl (none_by (sides n) n)) (is.others (suc q) (omega arith) lt)
+  columns zero lt = column_packed n k h (get_or new 0 []) start.0 first
+  columns (suc q) lt = column_packed n k (nothing n) (get_or new (suc q) []) (inl (none_by (sides n) n)) (other (suc q) (omega arith) lt)
 
   hulls : (t j : ℕ) → t < s → j < k → hull_in n new t j ≡ seen_hull (sides n) (start_hull b t)
   unfolding start_hull
-  hulls zero j lt less = ap (λ z. unpacked (lanes_of n z)) (is.start.1 j less) ∙ start.1
+  hulls zero j lt less = ap (λ z. unpacked (lanes_of n z)) (first.1 j less) ∙ start.1
   hulls (suc t) j lt less =
-      ap (λ z. unpacked (lanes_of n z)) ((is.others (suc t) (omega arith) lt).1 j less)
+      ap (λ z. unpacked (lanes_of n z)) ((other (suc t) (omega arith) lt).1 j less)
       ∙ ap unpacked (none_by (sides n) n) ∙ none_unpacked (lane_count n) big ∙ sym (none_seen (sides n))
       ∙ ap (λ z. seen_hull (sides n) (cond z (hull_of (one_hull b.start)) none)) (sym (eqb-suc-zero t))
 
   pub started : IsRow n s k new × ((t j : ℕ) → t < s → j < k → hull_in n new t j ≡ seen_hull (sides n) (start_hull b t))
-  started = (record { len = is.len; columns = columns }, hulls)
-
--- nothing in all columns
-pub all_nothing : (n s k : ℕ) (row : List (List (PackedHull n))) → IsReset n s k (nothing n) row → (q : ℕ) → q < s →
-    AreAll n (nothing n) k (get_or row q [])
-all_nothing n s k row is zero lt = is.start
-all_nothing n s k row is (suc q) lt = is.others (suc q) (omega arith) lt
+  started = (record { len = ap length made ∙ length-set row 0 (replicate k h) ∙ is.len; columns = columns }, hulls)

@@ -45,11 +45,10 @@ abbrev pub columns_in : {X : Type 0} → (states stride count : ℕ) → List X 
 columns_in states stride count xs =
     map (λ q. slice_range xs (q * stride) (q * stride + count)) (range_with_len 0 states)
 
--- a row just made: so many copies of a hull for the first state, and of nothing for the others
-pub record IsReset (n states count : ℕ) (first : PackedHull n) (row : List (List (PackedHull n))) : Type 0 where
+-- a row of hulls of nothing, so many for each of so many states
+pub record IsCleared (n states count : ℕ) (row : List (List (PackedHull n))) : Type 0 where
   pub len : length row ≡ states
-  pub start : AreAll n first count (get_or row 0 [])
-  pub others : (q : ℕ) → 0 < q → q < states → AreAll n (nothing n) count (get_or row q [])
+  pub columns : (q : ℕ) → q < states → AreAll n (nothing n) count (get_or row q [])
 
 -- the columns at the places from `from` up to `to`
 abbrev pub columns_part : {X : Type 0} → (from to : ℕ) → List (List X) → List (List X)

@@ -1,8 +1,25 @@
 //! A row of hulls in packed form.
 
 ghost use Rattle.std.specs.List.{All, CopiedTo, SameBelow, SameFrom, remove_range};
-ghost use Rattle.std.specs.Prelude.{◌≡◌, ◌<◌, ◌≤◌, ◌+◌, ◌-◌, ◌*◌, [], IfOk, length, get_or, map, slice_range};
-ghost use Rattle.ts_row.specs.Rows.{IsReset, columns_part, nothing};
+ghost use Rattle.std.specs.Prelude.{
+  ◌≡◌,
+  ◌<◌,
+  ◌≤◌,
+  ◌+◌,
+  ◌-◌,
+  ◌*◌,
+  [],
+  ◌++◌,
+  IfOk,
+  drop,
+  length,
+  get_or,
+  map,
+  replicate,
+  set,
+  slice_range,
+};
+ghost use Rattle.ts_row.specs.Rows.{IsCleared, columns_part};
 
 use crate::row_view::RowView;
 use std::alloc::Global;
@@ -69,17 +86,11 @@ impl<const N: usize> PackedRow<N> {
         column_at(&self.hulls, q, self.stride, self.count)
     }
 
-    /// Makes of the row a column of `count` hulls for each state, in the same memory: copies of `first` for the first
-    /// state, hulls of nothing for the others. After `Memory` it has no state.
-    pub(crate) fn reset(
-        &mut self,
-        states: u8,
-        count: usize,
-        first: PackedHull<N>,
-    ) -> Result<(), Memory>
-        requires some { 0 < states }
+    /// Makes of the row a column of `count` hulls of nothing for each state, in the same memory. After `Memory` it has
+    /// no state.
+    pub(crate) fn clear(&mut self, states: u8, count: usize) -> Result<(), Memory>
         requires lanes { N ≤ 64 }
-        ensures { IfOk result (λ u. IsReset N states count first.entry self.new) }
+        ensures { IfOk result (λ u. IsCleared N states count self.new) }
     {
         self.states = 0;
         let all = match (states as usize).checked_mul(count) {
@@ -87,8 +98,6 @@ impl<const N: usize> PackedRow<N> {
             None => return Err(Memory),
         };
         self.hulls.clear();
-        self.hulls.reserve(all)?;
-        self.hulls.resize(count, first)?;
         self.hulls.resize(all, PackedHull::nothing())?;
         self.states = states;
         self.stride = count;
@@ -96,24 +105,12 @@ impl<const N: usize> PackedRow<N> {
         Ok(())
     }
 
-    /// Makes of the row a column of `count` hulls of nothing for each state, in the same memory. After `Memory` it has
-    /// no state.
-    pub(crate) fn clear(&mut self, states: u8, count: usize) -> Result<(), Memory>
-        requires some { 0 < states }
-        requires lanes { N ≤ 64 }
-        ensures { IfOk result (λ u. IsReset N states count (nothing N) self.new) }
+    /// Puts copies of a hull in the place of all hulls of the first state.
+    pub(crate) fn begin(&mut self, first: PackedHull<N>)
+        requires { 0 < length self.old }
+        ensures { self.new ≡ set self.old 0 (replicate (length (get_or self.old 0 [])) first.entry) }
     {
-        self.states = 0;
-        let all = match (states as usize).checked_mul(count) {
-            Some(all) => all,
-            None => return Err(Memory),
-        };
-        self.hulls.clear();
-        self.hulls.resize(all, PackedHull::nothing())?;
-        self.states = states;
-        self.stride = count;
-        self.count = count;
-        Ok(())
+        fill_first(&mut self.hulls, self.count, first);
     }
 
     /// Takes the hulls at the places from `from` up to `to` out of each column: what is left is the row of the other
@@ -146,6 +143,14 @@ fn column_at<const N: usize>(
 {
     let from = q as usize * stride;
     &hulls[from..from + count]
+}
+
+/// Puts copies of a hull in the place of the first `count`.
+fn fill_first<const N: usize>(hulls: &mut [PackedHull<N>], count: usize, first: PackedHull<N>)
+    requires { count ≤ length hulls.old }
+    ensures { hulls.new ≡ replicate count first.entry ++ drop count hulls.old }
+{
+    hulls[..count].fill(first);
 }
 
 /// Moves the hulls of a state from place `to` on down to place `from`. It has `count` hulls.

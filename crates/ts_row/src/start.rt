@@ -75,6 +75,7 @@ pub fn start_row<const N: usize>(
 {
     let states = a.states();
     let hull = packed_start::<N>(a.start().regs);
-    row.reset(states, count, hull)?;
+    row.clear(states, count)?;
+    row.begin(hull);
     Ok(())
 }

@@ -1,7 +1,6 @@
 use Rattle.std.proofs.Common.{length, subst, ◌∙◌, arith}
 use Rattle.ts_row.specs.Rows.{HasTaken, hull_in, lanes_of, nothing, seen_gives}
 use Rattle.ts_row.specs.Takings.{count_in, value_in}
-use Rattle.ts_row.proofs.StartLaws.{all_nothing}
 use Rattle.ts_row.proofs.Steps.{filled_none, filled_more, filled_all}
 use Rattle.ts_row.proofs.row_steps.next_row.Goals as goal
 use Rattle.ts_sweep.specs.Columns.{hull_at}
@@ -12,7 +11,7 @@ loop-q-init g c =
     let is = c.in_ok-clear.ensures in
     filled_none g.row.N c.args.a.now (count_in c.args.values) (value_in c.args.values) (hull_in g.row.N c.args.before.now) (count_in c.args.next_values)
     (value_in c.args.next_values) c.clear.new.self c.requires.registers (is.len ∙ count)
-    (λ q lt. all_nothing g.row.N c.states.result (count_in c.args.next_values) c.clear.new.self is q (omega (arith, lt, count)))
+    (λ q lt. is.columns q (omega (arith, lt, count)))
 
 pub loop-q-preserved : goal.loop-q-preserved
 loop-q-preserved g c =

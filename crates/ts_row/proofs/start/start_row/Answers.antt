@@ -1,4 +1,4 @@
-use Rattle.std.proofs.Common.{◌≡◌, ℕ, ◌<◌, true, ap, sym, subst, rules}
+use Rattle.std.proofs.Common.{◌≡◌, ℕ, ◌<◌, true, ap, sym, subst, rules, arith}
 use Rattle.ts_automaton.specs.SpanRun.{one_hull}
 use Rattle.ts_automaton.specs.Registers.{rests}
 use Rattle.ts_automaton.specs.Typing.{each_is, is_constant, is_number_zero}
@@ -22,11 +22,16 @@ packed_start-hull-requires g c = (
   ),
 )
 
+pub begin-requires : goal.begin-requires
+begin-requires g c = let long = c.in_ok-clear.ensures.len in let some = c.states-states.ensures.some in omega (arith, long, some)
+
 pub returns : goal.returns
 returns g c =
-    let new = c.reset.new.self in
+    let new = c.begin.new.self in
     subst (λ s. IsRow g.row.N s c.args.count new × ((t j : ℕ) → t < s → j < c.args.count → hull_in g.row.N new t j
     ≡ seen_hull (sides g.row.N) (start_hull c.args.a.now t)))
     c.states-states.ensures.count
-    (started g.row.N c.states-states.result c.args.count c.args.a.now c.packed_start-hull.result new c.requires.registers c.in_ok-reset.ensures
+    (started g.row.N c.states-states.result c.args.count c.args.a.now c.packed_start-hull.result c.clear.new.self new c.requires.registers
+    (let some = c.states-states.ensures.some in omega (arith, some))
+    c.in_ok-clear.ensures c.begin.ensures
     (subst (λ z. IsHull g.row.N (hull_of (one_hull z)) c.packed_start-hull.result) (ap (λ z. z.regs) c.start.ensures.value) c.packed_start-hull.ensures))
