@@ -23,7 +23,7 @@ use Rattle.ts_row.specs.declared.plan.CellFold.TheVariants.{Ones, Width, Surf, G
 use Rattle.ts_row.specs.declared.plan.RangeFold.{RangeFold}
 use Rattle.ts_row.specs.declared.plan.RangeFold.TheVariants.{Sum, Highest, Lowest}
 use Rattle.ts_row.specs.declared.plan.Shape.{Shape}
-use Rattle.ts_row.specs.declared.plan.Shape.TheVariants.{Kept, Longer, Begun, Found, Inside, Ended, Anew, FoundTwice, EndedTwice, LongerNext, FoundNext, InsideNext, Other}
+use Rattle.ts_row.specs.declared.plan.Shape.TheVariants.{Kept, Longer, Begun, Found, Inside, Ended, Anew, FoundTwice, EndedTwice, LongerNext, FoundNext, InsideNext, Other, Pairs}
 use Rattle.ts_row.specs.declared.plan.Equals.TheVariants.{Alone, WithLess, WithGreater}
 use Rattle.ts_row.specs.declared.plan.StatePlan.{StatePlan}
 use Rattle.ts_row.specs.declared.plan.Plan.{Plan}
@@ -175,6 +175,7 @@ made_by (InsideNext f) = (
   Leaf HighAtom,
 )
 made_by Other = (Leaf C, Leaf E, Leaf D, Leaf F)
+made_by Pairs = (Leaf C, Leaf E, Leaf D, Leaf F)
 
 -- and of R: it may be joined with what was found or is held
 abbrev pub result_by : Bool → Shape → Formula
@@ -191,6 +192,7 @@ IsShapeOf wide (FoundNext f) k =
     k ≡ of_width wide (found_tails (Fold (cell_op f)) (cell_op f) (cell_word f) (cell_start f))
 IsShapeOf wide (InsideNext f) k = k ≡ of_width wide (inside_tails (Fold (cell_op f)) (cell_op f) (cell_start f))
 IsShapeOf wide Other k = Unit {0}
+IsShapeOf wide Pairs k = Unit {0}
 IsShapeOf wide s k =
     k ≡ of_width wide (fronts (made_by s).0 (made_by s).1 (made_by s).2 (made_by s).3 (result_by wide s))
 

@@ -34,6 +34,7 @@ ghost use Rattle.ts_row.specs.Plans.{
 use crate::words::{Words, is_same_turn, is_words, words_of};
 use ts_automaton::{Atom, Automaton, Expr, Op, State, Turn};
 use ts_base::Letter;
+use ts_sweep::swept::swept_parts;
 
 /// What the cells of a range are folded to: 1, their number, their sum, their greatest or their least value.
 #[derive(Clone, Copy)]
@@ -57,7 +58,8 @@ pub(crate) enum RangeFold {
 /// in `Found` C is made of D and the cell, in `Inside` of C, D and the cell, and D is reset; in `Ended` R takes in D
 /// and the cell, and D is reset; in `Anew` R takes in C, and C and D are reset; `FoundTwice` and `EndedTwice` are
 /// `Found` and `Ended` with the worth of two cells; `LongerNext` and `InsideNext` are `Longer` and `Inside` with the
-/// next cell in place of the cell, and `FoundNext` is `Found` with both; `Other` is anything else.
+/// next cell in place of the cell, and `FoundNext` is `Found` with both. `Other` is anything else that
+/// can be swept, and `Pairs` what can't: its expressions read the next cell otherwise.
 #[derive(Clone, Copy)]
 pub(crate) enum Shape {
     Kept,
@@ -73,6 +75,7 @@ pub(crate) enum Shape {
     FoundNext(CellFold),
     InsideNext(CellFold),
     Other,
+    Pairs,
 }
 
 /// Where the move on `=` is taken in: alone, or with the one on `<` or on `>`, which is the same.
@@ -228,7 +231,7 @@ fn open_words(s: Shape) -> (Words, Words)
         | Shape::EndedTwice(_, f)
         | Shape::FoundNext(f)
         | Shape::InsideNext(f) => (Words::Word(start_of(f)), Words::Word(Atom::PosInf)),
-        Shape::Kept | Shape::Other => (Words::Word(Atom::D), Words::Word(Atom::F)),
+        Shape::Kept | Shape::Other | Shape::Pairs => (Words::Word(Atom::D), Words::Word(Atom::F)),
     }
 }
 
@@ -357,7 +360,8 @@ impl Shape {
     {
         match only_shape(t, equal) {
             Some(s) if is_shape(t, s, wide, equal) => s,
-            _ => Shape::Other,
+            _ if equal || swept_parts(t).is_some() => Shape::Other,
+            _ => Shape::Pairs,
         }
     }
 }

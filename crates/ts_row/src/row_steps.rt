@@ -70,7 +70,7 @@ fn planned_move<'a, const N: usize>(
 }
 
 /// Takes a move into a column by a sweep that evaluates its expressions, if it can be swept. On `=` it can be, whatever
-/// it reads, since the next cell is the cell.
+/// it reads, since the next cell is the cell. Where the plan has found that it can't be, its expressions aren't read.
 fn take_tree<const N: usize>(m: Planned<'_>, t: &Between<'_, N>, next: &mut [PackedHull<N>]) -> bool
     requires covered { IsCovered N t.now }
     requires width { rests is_zero (has_wide N) (move_of m.turn.now).to ≡ true }
@@ -79,8 +79,9 @@ fn take_tree<const N: usize>(m: Planned<'_>, t: &Between<'_, N>, next: &mut [Pac
     ensures moved { result ≡ true → HasMoved N t.now m.entry.on (move_of m.entry.turn.now) next.old next.new }
     ensures kept { result ≡ false → next.new ≡ next.old }
 {
-    match m.on.letter {
-        Letter::Equal => take_equal::<PackedHull<N>, &Cell<'_>, &Cell<'_>>(
+    match (m.on.letter, *m.shape) {
+        (_, Shape::Pairs) => false,
+        (Letter::Equal, _) => take_equal::<PackedHull<N>, &Cell<'_>, &Cell<'_>>(
             m.turn,
             t.cover,
             t.values,
