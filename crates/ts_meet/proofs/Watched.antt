@@ -115,15 +115,20 @@ held_small Add false a e c = absurd c
 held_small Max false a e c = (e, inr (refl, inl c))
 held_small Min false a e c = (e, inr (refl, inr c))
 
-pub small_apart : (g : Gluing) (here there : Bool) (a b : EachOf Ends) → g.wide ≡ true → g.joins ≡ false →
-    IsSmall g.result here a → IsSmall g.result there b → IsPlain g a b
-small_apart g here there a b wide none s t = record {
-  results = λ e. (s.2 e, t.2 e);
-  apart = λ n e j. never_added (sym wide ∙ n);
-  held = λ w j. (held_small g.result here a s.0.0 s.1, held_small g.result there b t.0.0 t.1);
-  folded = λ n e j. never_added (sym wide ∙ n);
+pub apart_plain : (g : Gluing) (here there : Bool) (a b : EachOf Ends) → g.wide ≡ true → g.joins ≡ false →
+    (is_add g.result ≡ true → ArePlain a.r × ArePlain b.r) → ArePlain a.e → ArePlain b.e → IsHeldBy g.result here a.c → IsHeldBy g.result there b.c →
+    IsPlain g a b
+apart_plain g here there a b wide none results e f c d = record {
+  results = results;
+  apart = λ n h j. never_added (sym wide ∙ n);
+  held = λ w j. (held_small g.result here a e c, held_small g.result there b f d);
+  folded = λ n h j. never_added (sym wide ∙ n);
   spread = λ w j. never_added (sym j ∙ none);
 }
+
+pub small_apart : (g : Gluing) (here there : Bool) (a b : EachOf Ends) → g.wide ≡ true → g.joins ≡ false →
+    IsSmall g.result here a → IsSmall g.result there b → IsPlain g a b
+small_apart g here there a b wide none s t = apart_plain g here there a b wide none (λ e. (s.2 e, t.2 e)) s.0.0 t.0.0 s.1 t.1
 
 open_greatest : (o : Op) (e : Ends) → o ≡ Max → IsOpenPlain Max e → IsOpenPlain o e
 open_greatest o e is h = subst (λ z. IsOpenPlain z e) (sym is) h

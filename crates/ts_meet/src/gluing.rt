@@ -42,7 +42,8 @@ ghost use Rattle.ts_sweep.specs.Sides.{BothEnds, lane_count, seen, sides};
 use crate::column::Watched;
 use crate::peaks::Peaks;
 use crate::side::{Side, are_plain, is_open_plain, shown};
-use crate::sums::{Clamped, Near, Plain, Sums, is_infinity, less_near};
+use crate::small::is_held_by;
+use crate::sums::{Clamped, Near, Plain, Sums, is_infinity, is_neutral, less_near};
 use ts_automaton::{Op, Operator};
 use ts_glue::Part;
 use ts_sweep::operator::{Greater, Lesser, Operator as OnEnds};
@@ -621,12 +622,31 @@ impl Gluing {
             (pointed_spans (sides N) (spans_of (unpacked (lanes_of N left.now))))
             (pointed_spans (sides N) (spans_of (unpacked (lanes_of N right.now)))) (apart self.wide self.result)) }
     {
+        if self.wide {
+            return wide_apart(self.result, left, right);
+        }
         let (first, second) = (Side::of(left), Side::of(right));
         if self.is_apart_plain(first, second) {
             self.answers::<Plain>(first, second)
         } else {
             clamped_apart(self.result, self.wide, left, right)
         }
+    }
+
+    /// Whether all numbers that are added or taken away are small between wide automata where no occurrence goes on,
+    /// and C is held on each side as it is told.
+    #[inline(always)]
+    fn are_held_plain(self, here: bool, there: bool, left: Side, right: Side) -> bool
+        requires wide { self.wide ≡ true }
+        requires apart { self.joins ≡ false }
+        ensures { result ≡ true → IsPlain self (ends_in left) (ends_in right)
+            × IsHeldBy self.result here left.c × IsHeldBy self.result there right.c }
+    {
+        self.are_results_plain(left, right)
+            && is_held_by(self.result, here, left.c)
+            && is_held_by(self.result, there, right.c)
+            && are_plain(left.e)
+            && are_plain(right.e)
     }
 
     /// The glued ends of two hulls before the mark, where one occurrence goes on.
@@ -838,8 +858,8 @@ impl Gluing {
         }
     }
 
-    /// Whether one occurrence goes on between small hulls of wide automata, the greatest is folded, and C is held on each
-    /// side on which it is folded: then all numbers that are added or taken away are small.
+    /// Whether one occurrence goes on between small hulls of wide automata, the greatest is folded, and C is held on
+    /// each side on which it is folded: then all numbers that are added or taken away are small.
     fn is_spread_small(self, here: bool, there: bool) -> bool
         requires { self.wide ≡ true }
         ensures { (a b : EachOf Ends) → result ≡ true →
@@ -967,6 +987,28 @@ fn clamped_apart<const N: usize>(
 {
     let gluing = Gluing::apart(operator, wide);
     gluing.answers::<Clamped>(Side::of(left), Side::of(right))
+}
+
+/// The glued ends of two hulls of wide automata before the mark, where no occurrence goes on: whether C is held is
+/// found on each side. It is a call, so that narrow automata are glued by shorter code.
+#[inline(never)]
+fn wide_apart<const N: usize>(operator: Op, left: &PackedHull<N>, right: &PackedHull<N>) -> Ends
+    requires registers { 6 ≤ lane_count N }
+    requires left { AreSome (lane_count N) (lanes_of N left.now) }
+    requires right { AreSome (lane_count N) (lanes_of N right.now) }
+    ensures { IsPackOf result (glue_in sealed_spans
+        (pointed_spans (sides N) (spans_of (unpacked (lanes_of N left.now))))
+        (pointed_spans (sides N) (spans_of (unpacked (lanes_of N right.now)))) (apart true operator)) }
+{
+    let gluing = Gluing::apart(operator, true);
+    let (first, second) = (Side::of(left), Side::of(right));
+    let here = !is_neutral(operator, first.c);
+    let there = !is_neutral(operator, second.c);
+    if gluing.are_held_plain(here, there, first, second) {
+        gluing.answers_held(here, there, first, second)
+    } else {
+        clamped_apart(operator, true, left, right)
+    }
 }
 
 /// Whether what is held of an occurrence lies between small numbers, the greatest and the least of its cells. Where

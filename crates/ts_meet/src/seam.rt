@@ -69,8 +69,8 @@ pub(crate) struct Between<const O: u8, const F: u8>;
 #[derive(Clone, Copy)]
 pub(crate) struct Both<const O: u8, const F: u8>;
 
-/// One occurrence of wide automata goes on in which the greatest is folded, and all numbers that are added or taken away
-/// are small. `TRIMS` is whether it leaves a cell out at its end.
+/// One occurrence of wide automata goes on in which the greatest is folded, and all numbers that are added or taken
+/// away are small. `TRIMS` is whether it leaves a cell out at its end.
 #[derive(Clone, Copy)]
 pub(crate) struct Through<const O: u8, const TRIMS: bool>;
 

@@ -70,7 +70,7 @@ fn are_rest_small(side: Side) -> bool
 
 /// Whether C is small where it is held, and otherwise the infinity that the operator on results passes over.
 #[inline(always)]
-fn is_held_by(operator: Op, held: bool, c: Ends) -> bool
+pub(crate) fn is_held_by(operator: Op, held: bool, c: Ends) -> bool
     ensures { result ≡ true → IsHeldBy operator held c }
 {
     if held {

@@ -20,7 +20,8 @@ over-requires g c =
 
 pub loop-q-preserved : goal.loop-q-preserved
 loop-q-preserved g c =
-    let n = g.row.N in let o = numbered g.row.O in let a = c.args in let long = c.loop-q.invariant.0 in let before = c.loop-q-test.true in let end = c.loop-q.auto.q-end in
+    let n = g.row.N in let o = numbered g.row.O in let a = c.args in
+    let long = c.loop-q.invariant.0 in let before = c.loop-q-test.true in let end = c.loop-q.auto.q-end in
     let few = c.requires.few in let made = c.over.result in
     let there : ℕ → Watched → Type 0 = λ q k. AreWatched n o k (get_or a.row.now q []) a.from a.count in (
       length-set c.loop-q.all c.loop-q.q made ∙ long,
