@@ -38,7 +38,8 @@ use ts_model::Require;
 /// The machines of the terms, in their order, each with the rows of hulls that are known of one box, and that box. Each
 /// box has to be brought before it is asked about: then the rows that depend on a cell that differs are forgotten.
 /// Callers need not report what changed. If the rows of all might take too much memory, none are kept after a question.
-/// The window of each machine that a question is put to has to end at a cell of the box.
+/// The window of each machine that a question is put to has to end at a cell of the box. `courses` has memory for
+/// `next_drop`.
 #[derive(Drop)]
 pub struct AllTables<'a> {
     pub(crate) each: Vec<BoxTables<'a>>,

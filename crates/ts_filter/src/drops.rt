@@ -340,11 +340,11 @@ fn drop_in_cell<S: Spares>(
     if size < 2 {
         return (None, count);
     }
-    let mut i = count_up_to(values, limit);
+    let mut i = count_up_to(values, limit, 0);
     while i < size {
         let value = values.nth(i);
         let told = told_of(hulls, own, value, spares);
-        let to = count_up_to(values, told.to);
+        let to = count_up_to(values, told.to, i + 1);
         let (found, more) = first_between(hulls, asked, own, i, to, told.free);
         count = count.wrapping_add(more);
         if found.is_some() {
@@ -443,8 +443,11 @@ fn first_between(
     (None, count)
 }
 
-/// How many values come first that are at most the limit. It may lie in a gap between two of them, found by halving.
-fn count_up_to(values: &Domain, limit: i64) -> u64
+/// How many values come first that are at most the limit, as the first `known` ones are. It may lie in a gap between two
+/// of them, found by halving.
+fn count_up_to(values: &Domain, limit: i64, known: u64) -> u64
+    requires within { known ≤ length values.now }
+    requires known { (i : ℕ) (v : ℤ) → i < known → slice_get values.now i ≡ Some v → v ≤ℤ limit }
     ensures to { result ≤ length values.now }
     ensures below { (i : ℕ) (v : ℤ) → i < result → slice_get values.now i ≡ Some v → v ≤ℤ limit }
     ensures above { (i : ℕ) (v : ℤ) → result ≤ i → slice_get values.now i ≡ Some v → limit <ℤ v }
@@ -457,7 +460,7 @@ fn count_up_to(values: &Domain, limit: i64) -> u64
     if values.ends().high <= limit {
         return size;
     }
-    let mut from = 0;
+    let mut from = known;
     let mut to = size;
     while from < to {
         let middle = from + (to - from) / 2;

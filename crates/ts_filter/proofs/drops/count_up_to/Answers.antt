@@ -1,8 +1,8 @@
 use mir.Val.{SFits}
-use Rattle.std.proofs.Common.{◌≡◌, ◌<ℤ◌, ◌≤ℤ◌, Some, slice_get, subst, w64, arith, to_z, of_z, rules}
+use Rattle.std.proofs.Common.{◌≡◌, ◌<ℤ◌, ◌≤ℤ◌, Some, slice_get, subst, sym, w64, arith, to_z, of_z, rules}
 use Rattle.std.proofs.lemmas.Int.{ints, to_z-of_z}
 use Rattle.ts_domain.proofs.MarkedSets.{at_contains}
-use Rattle.ts_filter.proofs.SparedLaws.{AreUpTo, after_place, all_above, all_up_to, none_above, nothing_before, up_to_place}
+use Rattle.ts_filter.proofs.SparedLaws.{AreUpTo, after_place, all_above, all_up_to, none_above, up_to_place}
 use Rattle.ts_filter.proofs.drops.count_up_to.Goals as goal
 
 pub returns-then-contains-clause-below : goal.returns-then-contains-clause-below
@@ -30,10 +30,10 @@ returns-then-ends-limit-clause-above c =
 
 pub loop-from-init : goal.loop-from-init
 loop-from-init c =
-    let size = c.size-size.ensures.size in let limit = to_z w64 (of_z w64 c.args.limit) in record {
-      order = omega arith;
+    let size = c.size-size.ensures.size in let limit = to_z w64 (of_z w64 c.args.limit) in let known = c.requires.within in record {
+      order = omega (arith, size, known);
       within = omega (arith, size);
-      below = nothing_before c.args.values.now limit;
+      below = subst (AreUpTo c.args.values.now c.args.known) (sym (to_z-of_z w64 c.args.limit c.ranges.limit)) c.requires.known;
       above = none_above c.args.values.now c.size-size.result limit (omega (arith, size));
     }
 

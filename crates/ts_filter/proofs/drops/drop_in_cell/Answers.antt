@@ -9,7 +9,7 @@ use Rattle.ts_domain.specs.Values.{IsRising, WithinLimits}
 use Rattle.ts_filter.specs.Boxes.{values_at}
 use Rattle.ts_filter.specs.KeptCells.{AreFree}
 use Rattle.ts_filter.proofs.DropLaws.{first_is, left_is_known, none_left}
-use Rattle.ts_filter.proofs.SparedLaws.{left_above, left_free, past_value}
+use Rattle.ts_filter.proofs.SparedLaws.{all_up_to, left_above, left_free, nothing_before, past_value}
 use Rattle.ts_filter.proofs.drops.drop_in_cell.Goals as goal
 
 pub loop-i-init : goal.loop-i-init
@@ -26,6 +26,23 @@ loop-i-init g c =
           (λ i v below at. subst (λ z. v ≤ℤ z) (to_z-of_z w64 c.args.limit c.ranges.limit)
           (c.count_up_to-i.ensures.below i v below (subst (λ l. slice_get l i ≡ Some v) (sym c.values-values.ensures.values) at))),
     )
+
+pub count_up_to-i-requires-clause-known : goal.count_up_to-i-requires-clause-known
+count_up_to-i-requires-clause-known g c = nothing_before c.values-values.result.now (to_z w64 (of_z w64 c.args.limit))
+
+pub count_up_to-to-requires-clause-within : goal.count_up_to-to-requires-clause-within
+count_up_to-to-requires-clause-within g c = let size = c.size-size.ensures.size in let below = c.loop-i-test.true in omega (arith, size, below)
+
+-- the values up to one that is told of are told of, too
+pub count_up_to-to-requires-clause-known : goal.count_up_to-to-requires-clause-known
+count_up_to-to-requires-clause-known g c =
+    let fits : SFits w64 c.nth-value.result = search rules in
+    let v_is = to_z-of_z w64 c.nth-value.result fits in
+    let to_is = to_z-of_z w64 c.told_of-told.result.to (search rules) in
+    let up : c.nth-value.result ≤ℤ to_z w64 (of_z w64 c.told_of-told.result.to) =
+    let told = c.told_of-told.ensures.to in omega (arith, ints, told, v_is, to_is) in
+    all_up_to c.values-values.result.now c.loop-i.i c.nth-value.result (to_z w64 (of_z w64 c.told_of-told.result.to)) c.size-size.ensures.domain.rising
+    c.nth-value.ensures up
 
 pub first_between-found-requires-clause-many : goal.first_between-found-requires-clause-many
 first_between-found-requires-clause-many g c =
