@@ -121,7 +121,7 @@ fn shape_of(forward: &Automaton, reverse: &Automaton, table: &GlueTable, q: u8, 
 
 impl GlueTable {
     /// Whether one occurrence goes on from the forward state to the reverse one.
-    pub(crate) fn is_join(&self, forward: u8, reverse: u8) -> bool
+    pub fn is_join(&self, forward: u8, reverse: u8) -> bool
         ensures { result ≡ is_join (table_view self.now) forward reverse }
     {
         self.joins
@@ -132,7 +132,7 @@ impl GlueTable {
 
 impl FoldOp {
     /// The operator that folds the whole of an occurrence.
-    pub(crate) fn op(self) -> Op
+    pub fn op(self) -> Op
         ensures { result ≡ fold_op self }
     {
         match self {
@@ -143,7 +143,7 @@ impl FoldOp {
     }
 
     /// Whether the least cell is folded beside the greatest.
-    pub(crate) fn is_pair(self) -> bool
+    pub fn is_pair(self) -> bool
         ensures { result ≡ is_pair self }
     {
         match self {
@@ -166,7 +166,7 @@ impl CellUnit {
 }
 
 /// The operator with which a finish expression begins.
-fn first_op(finish: &Expr) -> Op
+pub fn first_op(finish: &Expr) -> Op
     ensures { result ≡ first_op (formula finish.now) }
 {
     match finish {

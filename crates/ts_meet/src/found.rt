@@ -2,9 +2,8 @@
 
 ghost use Rattle.std.specs.Prelude.{◌≡◌, ℕ, ◌<◌, ℤ, true, false, [], IfSome, IsSome, get_or, length};
 ghost use Rattle.ts_automaton.specs.Body.{node_at};
-ghost use Rattle.ts_automaton.specs.Formula.{formula};
 ghost use Rattle.ts_base.specs.Limits.{IsCellValue};
-ghost use Rattle.ts_glue.specs.Glue.{first_op, fold_op, glue_of, is_join, is_pair};
+ghost use Rattle.ts_glue.specs.Glue.{glue_of, is_join};
 ghost use Rattle.ts_glue.specs.Machines.{pair_of};
 ghost use Rattle.ts_glue.specs.Pairs.{Pair, pair, table_view};
 ghost use Rattle.ts_meet.specs.Joints.{AreJoints, AreJoinsOf, IsGluing, expression, is_add};
@@ -12,8 +11,8 @@ ghost use Rattle.ts_meet.specs.Joints.{AreJoints, AreJoinsOf, IsGluing, expressi
 use crate::gluing::{Gluing, is_add};
 use crate::joints::{Joints, STATES};
 use crate::spot::Spot;
-use ts_automaton::{Automaton, Expr, Op};
-use ts_glue::{FoldOp, GlueTable, Machine};
+use ts_automaton::{Automaton, Op};
+use ts_glue::{GlueTable, Machine, first_op};
 
 impl Joints {
     /// The joints of a machine that can be split.
@@ -149,9 +148,9 @@ fn joints_of(forward: &Automaton, reverse: &Automaton, table: &GlueTable) -> Joi
 {
     Joints {
         result: first_op(forward.finish_expr()),
-        fold: op_of(table.op),
+        fold: table.op.op(),
         unit: table.unit,
-        wide: is_pair(table.op),
+        wide: table.op.is_pair(),
         trims: table.a > 0,
         mark: forward.mark(),
         left_states: forward.states(),
@@ -181,19 +180,9 @@ fn row_of(forward: &Automaton, reverse: &Automaton, table: &GlueTable, q: u8) ->
 {
     let mut row = [false; STATES];
     for r in 0..reverse.states() {
-        row[r as usize] = is_join(table, q, r);
+        row[r as usize] = table.is_join(q, r);
     }
     row
-}
-
-/// Whether one occurrence goes on between a forward and a reverse state.
-fn is_join(table: &GlueTable, forward: u8, reverse: u8) -> bool
-    ensures { result ≡ is_join (table_view table.now) forward reverse }
-{
-    table
-        .joins
-        .iter()
-        .any(|join| join.forward == forward && join.reverse == reverse)
 }
 
 /// For each state, whether C is held there.
@@ -205,36 +194,4 @@ fn held_in(a: &Automaton) -> [bool; STATES]
         held[q as usize] = a.state(q).held;
     }
     held
-}
-
-/// The operator that folds the whole of an occurrence.
-fn op_of(fold: FoldOp) -> Op
-    ensures { result ≡ fold_op fold }
-{
-    match fold {
-        FoldOp::Add => Op::Add,
-        FoldOp::Max | FoldOp::Pair => Op::Max,
-        FoldOp::Min => Op::Min,
-    }
-}
-
-/// Whether the least cell is folded beside the greatest: then both automata are wide.
-fn is_pair(fold: FoldOp) -> bool
-    ensures { result ≡ is_pair fold }
-{
-    match fold {
-        FoldOp::Pair => true,
-        FoldOp::Add | FoldOp::Max | FoldOp::Min => false,
-    }
-}
-
-/// The operator with which a finish expression begins.
-fn first_op(finish: &Expr) -> Op
-    ensures { result ≡ first_op (formula finish.now) }
-{
-    match finish {
-        Expr::Max(_, _) => Op::Max,
-        Expr::Min(_, _) => Op::Min,
-        _ => Op::Add,
-    }
 }

@@ -6,7 +6,7 @@ use Rattle.ts_meet.proofs.found.joints_of.Goals as goal
 pub returns : goal.returns
 returns c = record {
   result = c.first_op.ensures ∙ ap first_op c.finish_expr.ensures.value;
-  fold = c.op_of.ensures;
+  fold = c.op.ensures;
   unit = refl;
   wide = c.is_pair.ensures;
   trims = trims_is c.args.table.now.a;
