@@ -356,7 +356,8 @@ fn keeps_rows(
     cells: &[Domain],
 ) -> Result<bool, Memory>
     ensures { IfOk result (λ keeps. IsTrue keeps
-        ↔ (bytes_from (named_terms requirements.now objective) 0 (map automata_of machines.now) cells.now ≤ most_bytes)) }
+        ↔ (bytes_from (named_terms requirements.now objective) 0 (map automata_of machines.now) cells.now
+        ≤ most_bytes)) }
 {
     let named = named_terms(alloc, requirements, objective)?;
     Ok(has_room(machines, &named, cells))

@@ -27,8 +27,8 @@ use ts_model::Require;
 const PAST_ALL: u32 = u32::MAX;
 
 /// Where drops by the requirements of a term may still be: at the cells after the first `before`, up to cell `last`.
-/// The next of these is to be asked about; where none is left, `before` is `PAST_ALL`. `outside` is the requirement that is
-/// refuted at all cells outside the window.
+/// The next of these is to be asked about; where none is left, `before` is `PAST_ALL`. `outside` is the requirement
+/// that is refuted at all cells outside the window.
 #[derive(Clone, Copy)]
 pub(crate) struct Course {
     pub(crate) before: u32,

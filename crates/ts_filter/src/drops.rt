@@ -443,8 +443,8 @@ fn first_between(
     (None, count)
 }
 
-/// How many values come first that are at most the limit, as the first `known` ones are. It may lie in a gap between two
-/// of them, found by halving.
+/// How many values come first that are at most the limit, as the first `known` ones are. It may lie in a gap between
+/// two of them, found by halving.
 fn count_up_to(values: &Domain, limit: i64, known: u64) -> u64
     requires within { known ≤ length values.now }
     requires known { (i : ℕ) (v : ℤ) → i < known → slice_get values.now i ≡ Some v → v ≤ℤ limit }

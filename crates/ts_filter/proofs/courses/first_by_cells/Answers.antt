@@ -54,7 +54,8 @@ loop-before-preserved g c =
       machines = c.drops_at.ensures.machines ∙ c.loop-before.invariant.machines;
       known = c.drops_at.ensures.known;
       courses = asked.courses;
-      from = subst (AllFrom c.least_before-before-in-loop-before.result) c.as_slice-in-loop-before.ensures.value c.least_before-before-in-loop-before.ensures.least;
+      from = subst (AllFrom c.least_before-before-in-loop-before.result) c.as_slice-in-loop-before.ensures.value
+          c.least_before-before-in-loop-before.ensures.least;
     }
 
 pub loop-before-smaller : goal.loop-before-smaller
