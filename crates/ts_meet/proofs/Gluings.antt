@@ -17,7 +17,7 @@ use Rattle.ts_automaton.specs.Formula.{Formula, Leaf, Join}
 use Rattle.ts_automaton.specs.Registers.{EachOf, Takes, Values, value_in}
 use Rattle.ts_glue.specs.declared.operand.Part.{Part}
 use Rattle.ts_glue.specs.declared.operand.Part.TheVariants.{Whole, Away}
-use Rattle.ts_glue.specs.Glue.{Glue, Left, Right, Number, With, GlueTakes, apart, fold_of, fold_op, folded_between, folded_both, glue_in, glue_of, held_in, is_join, is_wide, join_of, open_in, part_of, result_of, result_op, worth}
+use Rattle.ts_glue.specs.Glue.{Glue, Left, Right, Number, With, GlueTakes, apart, counted_once, fold_of, fold_op, folded_between, folded_both, glue_in, glue_of, held_in, is_join, is_wide, join_of, open_in, opened, part_of, result_of, result_op, then_opened, worth}
 use Rattle.ts_glue.specs.Pairs.{Pair}
 use Rattle.ts_hull.specs.Sealed.{sealed_op, sealed_spans}
 use Rattle.ts_sweep.specs.declared.packed.Ends.{Ends}
@@ -30,7 +30,7 @@ use Rattle.ts_sweep.specs.Operators.{crossed, sum_of_ends}
 use Rattle.ts_sweep.specs.Packed.{AreSome, AreWithin, IsPackOf, IsSomeEnds, IsWithin, register_span}
 use Rattle.ts_sweep.specs.PackedLaws.{same_ends}
 use Rattle.ts_meet.specs.declared.gluing.Gluing.{Gluing}
-use Rattle.ts_meet.specs.Joints.{IsFoldPlain, IsHeldPlain, IsOpenPlain, IsPlain, between_expression, both_expression, expression, folds_held, held_ends, is_add, joined_expression, leaves_out, open_ends, part_by, spread_expression}
+use Rattle.ts_meet.specs.Joints.{IsFoldPlain, IsHeldPlain, IsOpenPlain, IsPlain, between_expression, both_expression, expression, folds_held, held_ends, is_add, joined_expression, leaves_out, once, open_ends, part_by, spread_expression}
 use Rattle.ts_meet.specs.SideLaws.{cell_within, far_infinity, near_small}
 use Rattle.ts_meet.specs.Sides.{AreSomeEnds, ArePackOf, IsNear, IsNeutral, TakesAny, TakesNear, TakesPlain, is_far, plain_by, plain_values}
 
@@ -668,21 +668,65 @@ both_is g narrow keeps =
 
 -- what lies on both sides of a cell, folded step by step
 
-pub between_steps : (o : Op) (p : Part) (a b : EachOf Ends) (l r : Bool) (d : ℤ) (opened with_cell with_held e : Ends) →
-    opened ≡ cond l (plain_by (Fold o) (held_ends p a) (open_ends p a)) (open_ends p a) →
-    with_cell ≡ plain_by (Fold o) opened (plain_values.constant (Int d)) →
-    with_held ≡ cond r (plain_by (Fold o) with_cell (held_ends p b)) with_cell → e ≡ plain_by (Fold o) with_held (open_ends p b) →
-    e ≡ glue_in plain_values a b (folded_between o p l r d)
-between_steps o p a b true true d opened with_cell with_held e is1 is2 is3 is4 =
-    is4 ∙ ap (λ z. plain_by (Fold o) z (open_ends p b))
-    (is3 ∙ ap (λ z. plain_by (Fold o) z (held_ends p b)) (is2 ∙ ap (λ z. plain_by (Fold o) z (plain_values.constant (Int d))) is1))
-between_steps o p a b true false d opened with_cell with_held e is1 is2 is3 is4 =
-    is4 ∙ ap (λ z. plain_by (Fold o) z (open_ends p b)) (is3 ∙ is2 ∙ ap (λ z. plain_by (Fold o) z (plain_values.constant (Int d))) is1)
-between_steps o p a b false true d opened with_cell with_held e is1 is2 is3 is4 =
-    is4 ∙ ap (λ z. plain_by (Fold o) z (open_ends p b))
-    (is3 ∙ ap (λ z. plain_by (Fold o) z (held_ends p b)) (is2 ∙ ap (λ z. plain_by (Fold o) z (plain_values.constant (Int d))) is1))
-between_steps o p a b false false d opened with_cell with_held e is1 is2 is3 is4 =
-    is4 ∙ ap (λ z. plain_by (Fold o) z (open_ends p b)) (is3 ∙ is2 ∙ ap (λ z. plain_by (Fold o) z (plain_values.constant (Int d))) is1)
+module _ (m : Values Ends) (P : Operator → Ends → Ends → Type 0) (a b : EachOf Ends) (o : Op) where
+  pub glue_if : (t : Bool) (u v : Glue) → glue_in m a b (cond t u v) ≡ cond t (glue_in m a b u) (glue_in m a b v)
+  glue_if true u v = refl
+  glue_if false u v = refl
+
+  -- what the left side has of a part, and that with the cell
+  abbrev pub left_of : Part → Bool → Glue
+  left_of p l = opened o l (Left (held_in p)) (Left (open_in p))
+
+  abbrev pub to_cell : Part → Bool → ℤ → Glue
+  to_cell p l d = With (Fold o) (left_of p l) (Number d)
+
+  onto : (r : Bool) (u c d : Glue) → GlueTakes P m a b (then_opened o u r c d) → GlueTakes P m a b u
+  onto true u c d h = h.0.0
+  onto false u c d h = h.0
+
+  pub cell_taken : (p : Part) (l r : Bool) (d : ℤ) → GlueTakes P m a b (folded_between o p l r d) → (x n : Ends) →
+      x ≡ glue_in m a b (left_of p l) → n ≡ m.constant (Int d) → P (Fold o) x n
+  cell_taken p l r d h x n is1 is2 =
+      subst (λ z. P (Fold o) z n) (sym is1)
+      (subst (P (Fold o) (glue_in m a b (left_of p l))) (sym is2) (onto r (to_cell p l d) (Right (held_in p)) (Right (open_in p)) h).2)
+
+  pub held_taken : (p : Part) (l r : Bool) (d : ℤ) → GlueTakes P m a b (folded_between o p l r d) → r ≡ true → (x e : Ends) →
+      x ≡ glue_in m a b (to_cell p l d) → e ≡ value_in m b (pos 0) (pos 0) (held_in p) → P (Fold o) x e
+  held_taken p l r d h is x e is1 is2 =
+      subst (λ z. P (Fold o) z e) (sym is1)
+      (subst (P (Fold o) (glue_in m a b (to_cell p l d))) (sym is2)
+      (subst (λ z. GlueTakes P m a b (folded_between o p l z d)) is h).0.2)
+
+  pub open_taken : (p : Part) (l r : Bool) (d : ℤ) → GlueTakes P m a b (folded_between o p l r d) → (x e : Ends) →
+      x ≡ cond r (m.join (Fold o) (glue_in m a b (to_cell p l d)) (value_in m b (pos 0) (pos 0) (held_in p))) (glue_in m a b (to_cell p l d)) →
+      e ≡ value_in m b (pos 0) (pos 0) (open_in p) → P (Fold o) x e
+  open_taken p l r d h x e is1 is2 =
+      let to = to_cell p l d in let whole = With (Fold o) to (Right (held_in p)) in
+      subst (λ z. P (Fold o) z e) (sym (is1 ∙ sym (glue_if r whole to))) (subst (P (Fold o) (glue_in m a b (cond r whole to))) (sym is2) h.2)
+
+  pub between_steps : (p : Part) (l r : Bool) (d : ℤ) (x e z : Ends) →
+      x ≡ cond r (m.join (Fold o) (glue_in m a b (to_cell p l d)) (value_in m b (pos 0) (pos 0) (held_in p))) (glue_in m a b (to_cell p l d)) →
+      e ≡ value_in m b (pos 0) (pos 0) (open_in p) → z ≡ m.join (Fold o) x e → z ≡ glue_in m a b (folded_between o p l r d)
+  between_steps p l r d x e z is1 is2 is3 =
+      let to = to_cell p l d in let whole = With (Fold o) to (Right (held_in p)) in
+      is3 ∙ ap (λ y. m.join (Fold o) y e) (is1 ∙ sym (glue_if r whole to)) ∙ ap (m.join (Fold o) (glue_in m a b (cond r whole to))) is2
+
+-- what both sides have folded
+
+abbrev pub side_by_side : Op → Part → Glue
+side_by_side o p = With (Fold o) (With (Fold o) (Left (held_in p)) (Left (open_in p))) (With (Fold o) (Right (held_in p)) (Right (open_in p)))
+
+pub side_by_side_taken : (m : Values Ends) (P : Operator → Ends → Ends → Type 0) (a b : EachOf Ends) (o : Op) (p : Part) (d : ℤ) →
+    GlueTakes P m a b (folded_both o p d) → GlueTakes P m a b (side_by_side o p)
+side_by_side_taken m P a b Add p d h = h.0
+side_by_side_taken m P a b Max p d h = h
+side_by_side_taken m P a b Min p d h = h
+
+pub once_is : (m : Values Ends) (a b : EachOf Ends) (o : Op) (d : ℤ) (u : Glue) →
+    once m o (glue_in m a b u) (m.constant (Int (neg_ℤ d))) ≡ glue_in m a b (counted_once o d u)
+once_is m a b Add d u = refl
+once_is m a b Max d u = refl
+once_is m a b Min d u = refl
 
 -- of wide ones the least is taken away
 

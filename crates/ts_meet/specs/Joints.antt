@@ -5,8 +5,8 @@ use Rattle.ts_base.specs.declared.op.Op.TheVariants.{Add, Max, Min}
 use Rattle.ts_automaton.specs.Body.{node_at}
 use Rattle.ts_automaton.specs.declared.state.Mark.{Mark}
 use Rattle.ts_automaton.specs.declared.state.Mark.TheVariants.{Same, Zero as ZeroMark, Cells}
-use Rattle.ts_automaton.specs.declared.expr.Operator.TheVariants.{Sub}
-use Rattle.ts_automaton.specs.Registers.{EachOf, value_in}
+use Rattle.ts_automaton.specs.declared.expr.Operator.TheVariants.{Fold, Sub}
+use Rattle.ts_automaton.specs.Registers.{EachOf, Values, value_in}
 use Rattle.ts_glue.specs.Glue.{Glue, With, apart, fold_of, folded_between, folded_both, fold_op, glue_of, held_in, is_join, is_wide, join_of, open_in, result_op, worth}
 use Rattle.ts_glue.specs.declared.operand.Part.{Part}
 use Rattle.ts_glue.specs.declared.operand.Part.TheVariants.{Whole, Away}
@@ -16,6 +16,12 @@ use Rattle.ts_sweep.specs.Fronts.{ArePlain}
 use Rattle.ts_meet.specs.declared.gluing.Gluing.{Gluing}
 use Rattle.ts_meet.specs.declared.joints.Joints.{Joints}
 use Rattle.ts_meet.specs.Sides.{IsInfinity, plain_values}
+
+-- what both sides have folded, less the cell where the operator would count it twice
+abbrev pub once : Values Ends → Op → Ends → Ends → Ends
+once m Add both less = m.join (Fold Add) both less
+once m Max both less = both
+once m Min both less = both
 
 -- a part of the one occurrence, folded by an operator, where the cell has a worth
 abbrev pub part_by : Gluing → Op → Part → Glue

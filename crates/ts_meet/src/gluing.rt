@@ -1,12 +1,11 @@
 //! What is made of the registers on both sides of a cell.
 
-ghost use Rattle.std.specs.Prelude.{◌≡◌, ◌⊎◌, ◌≤◌, true, false, neg_ℤ, pos};
+ghost use Rattle.std.specs.Prelude.{◌≡◌, ◌⊎◌, ◌≤◌, true, false, pos};
 ghost use Rattle.ts_automaton.specs.Registers.{EachOf, Takes, spans_of, value_in};
 ghost use Rattle.ts_base.specs.declared.ext.Ext.TheVariants.{Int};
-ghost use Rattle.ts_base.specs.declared.op.Op.TheVariants.{Max, Min};
+ghost use Rattle.ts_base.specs.declared.op.Op.TheVariants.{Max};
 ghost use Rattle.ts_base.specs.Limits.{IsCellValue};
 ghost use Rattle.ts_glue.specs.Glue.{GlueTakes, apart, fold_of, folded_between, folded_both, glue_in, held_of, result_of};
-ghost use Rattle.ts_glue.specs.declared.operand.Part.TheVariants.{Away, Whole};
 ghost use Rattle.ts_hull.specs.Sealed.{sealed_spans};
 ghost use Rattle.ts_meet.specs.Joints.{
   IsFoldPlain,
@@ -40,13 +39,14 @@ ghost use Rattle.ts_sweep.specs.Packed.{AreSome, IsPackOf, unpacked};
 ghost use Rattle.ts_sweep.specs.Sides.{BothEnds, lane_count, seen, sides};
 
 use crate::column::Watched;
+use crate::folding::Folding;
+use crate::part::{OfAway, OfWhole, Registers};
 use crate::peaks::Peaks;
 use crate::side::{Side, are_plain, is_open_plain, shown};
 use crate::small::is_held_by;
 use crate::sums::{Clamped, Near, Plain, Sums, is_infinity, is_neutral, less_near};
 use ts_automaton::{Op, Operator};
-use ts_glue::Part;
-use ts_sweep::operator::{Greater, Lesser, Operator as OnEnds};
+use ts_sweep::operator::{Greater, Lesser};
 use ts_sweep::packed::{Ends, PackedHull};
 
 /// How the registers of a pair of states are glued: the operators that join results and fold cells, what the cell is
@@ -420,93 +420,10 @@ impl Gluing {
         ensures { result ≡ glue_in plain_values (ends_in left) (ends_in right) (spread_expression self) }
     {
         let join = Operator::Fold(self.result);
-        let spread = less_near(self.greatest(left, right), self.least(left, right));
+        let greatest = self.part::<Near, OfWhole, Greater>(Greater, left, right);
+        let least = self.part::<Near, OfAway, Lesser>(Lesser, left, right);
+        let spread = less_near(greatest, least);
         Near::joined(join, Near::joined(join, left.r, right.r), spread)
-    }
-
-    /// The greatest cell of the occurrence that goes on. Its operator isn't looked up, so that this is short enough to
-    /// lie in the loop over values.
-    #[inline(always)]
-    fn greatest(self, left: Side, right: Side) -> Ends
-        requires { IsCellValue self.worth }
-        ensures { result ≡ glue_in plain_values (ends_in left) (ends_in right) (part_by self Max Whole) }
-    {
-        if self.trims {
-            self.greatest_between(left, right)
-        } else {
-            self.greatest_of_both(left, right)
-        }
-    }
-
-    /// The greatest of what is held and open on both sides and of the cell between them.
-    #[inline(always)]
-    fn greatest_between(self, left: Side, right: Side) -> Ends
-        requires { IsCellValue self.worth }
-        ensures { result ≡ glue_in plain_values (ends_in left) (ends_in right)
-            (folded_between Max Whole self.held_left self.held_right self.worth) }
-    {
-        let opened = if self.held_left {
-            Greater.of(left.c, left.d)
-        } else {
-            left.d
-        };
-        let with_cell = Greater.of(opened, self.cell::<Near>());
-        let with_held = if self.held_right {
-            Greater.of(with_cell, right.c)
-        } else {
-            with_cell
-        };
-        Greater.of(with_held, right.d)
-    }
-
-    /// The greatest of what both sides have folded.
-    #[inline(always)]
-    fn greatest_of_both(self, left: Side, right: Side) -> Ends
-        ensures { result ≡ glue_in plain_values (ends_in left) (ends_in right) (folded_both Max Whole self.worth) }
-    {
-        Greater.of(Greater.of(left.c, left.d), Greater.of(right.c, right.d))
-    }
-
-    /// The least cell of the occurrence that goes on.
-    #[inline(always)]
-    fn least(self, left: Side, right: Side) -> Ends
-        requires { IsCellValue self.worth }
-        ensures { result ≡ glue_in plain_values (ends_in left) (ends_in right) (part_by self Min Away) }
-    {
-        if self.trims {
-            self.least_between(left, right)
-        } else {
-            self.least_of_both(left, right)
-        }
-    }
-
-    /// The least of what is held and open on both sides and of the cell between them.
-    #[inline(always)]
-    fn least_between(self, left: Side, right: Side) -> Ends
-        requires { IsCellValue self.worth }
-        ensures { result ≡ glue_in plain_values (ends_in left) (ends_in right)
-            (folded_between Min Away self.held_left self.held_right self.worth) }
-    {
-        let opened = if self.held_left {
-            Lesser.of(left.e, left.f)
-        } else {
-            left.f
-        };
-        let with_cell = Lesser.of(opened, self.cell::<Near>());
-        let with_held = if self.held_right {
-            Lesser.of(with_cell, right.e)
-        } else {
-            with_cell
-        };
-        Lesser.of(with_held, right.f)
-    }
-
-    /// The least of what both sides have folded.
-    #[inline(always)]
-    fn least_of_both(self, left: Side, right: Side) -> Ends
-        ensures { result ≡ glue_in plain_values (ends_in left) (ends_in right) (folded_both Min Away self.worth) }
-    {
-        Lesser.of(Lesser.of(left.e, left.f), Lesser.of(right.e, right.f))
     }
 
     /// The glued ends of two hulls before the mark, where the cell lies between both sides of an occurrence and
@@ -561,7 +478,7 @@ impl Gluing {
         Plain::joined(
             join,
             Plain::joined(join, left.r, right.r),
-            self.folded_between::<Plain>(self.fold, Part::Whole, left, right),
+            self.folded_between::<Plain, OfWhole, Op>(self.fold, left, right),
         )
     }
 
@@ -576,7 +493,7 @@ impl Gluing {
         Plain::joined(
             join,
             Plain::joined(join, left.r, right.r),
-            self.folded_both::<Plain>(self.fold, Part::Whole, left, right),
+            self.folded_both::<Plain, OfWhole, Op>(self.fold, left, right),
         )
     }
 
@@ -731,77 +648,73 @@ impl Gluing {
         if self.wide {
             S::joined(
                 Operator::Sub,
-                self.part::<S>(self.fold, Part::Whole, left, right),
-                self.part::<S>(Op::Min, Part::Away, left, right),
+                self.part::<S, OfWhole, Op>(self.fold, left, right),
+                self.part::<S, OfAway, Lesser>(Lesser, left, right),
             )
         } else {
-            self.part::<S>(self.fold, Part::Whole, left, right)
+            self.part::<S, OfWhole, Op>(self.fold, left, right)
         }
     }
 
-    /// The whole of the occurrence that goes on, or what is taken away from it, folded by an operator.
+    /// A part of the occurrence that goes on, folded by an operator.
     #[inline(always)]
-    fn part<S: Sums>(self, o: Op, part: Part, left: Side, right: Side) -> Ends
-        requires fits { GlueTakes S.takes S.values (ends_in left) (ends_in right) (part_by self o part) }
+    fn part<S: Sums, P: Registers, K: Folding<S>>(self, k: K, left: Side, right: Side) -> Ends
+        requires fits { GlueTakes S.takes S.values (ends_in left) (ends_in right) (part_by self (K.fold k) P.part) }
         requires worth { IsCellValue self.worth }
-        ensures { result ≡ glue_in S.values (ends_in left) (ends_in right) (part_by self o part) }
+        ensures { result ≡ glue_in S.values (ends_in left) (ends_in right) (part_by self (K.fold k) P.part) }
     {
         if self.trims {
-            self.folded_between::<S>(o, part, left, right)
+            self.folded_between::<S, P, K>(k, left, right)
         } else {
-            self.folded_both::<S>(o, part, left, right)
+            self.folded_both::<S, P, K>(k, left, right)
         }
     }
 
     /// What the left side has held and open, the cell, and what the right side has held and open, folded in this order.
     #[inline(always)]
-    fn folded_between<S: Sums>(self, o: Op, part: Part, left: Side, right: Side) -> Ends
+    fn folded_between<S: Sums, P: Registers, K: Folding<S>>(
+        self,
+        k: K,
+        left: Side,
+        right: Side,
+    ) -> Ends
         requires fits { GlueTakes S.takes S.values (ends_in left) (ends_in right)
-            (folded_between o part self.held_left self.held_right self.worth) }
+            (folded_between (K.fold k) P.part self.held_left self.held_right self.worth) }
         requires worth { IsCellValue self.worth }
         ensures { result ≡ glue_in S.values (ends_in left) (ends_in right)
-            (folded_between o part self.held_left self.held_right self.worth) }
+            (folded_between (K.fold k) P.part self.held_left self.held_right self.worth) }
     {
         let opened = if self.held_left {
-            S::joined(
-                Operator::Fold(o),
-                left.held::<S>(part),
-                left.open::<S>(part),
-            )
+            k.folded(P::held::<S>(left), P::open::<S>(left))
         } else {
-            left.open::<S>(part)
+            P::open::<S>(left)
         };
-        let with_cell = S::joined(Operator::Fold(o), opened, self.cell::<S>());
+        let with_cell = k.folded(opened, self.cell::<S>());
         let with_held = if self.held_right {
-            S::joined(Operator::Fold(o), with_cell, right.held::<S>(part))
+            k.folded(with_cell, P::held::<S>(right))
         } else {
             with_cell
         };
-        S::joined(Operator::Fold(o), with_held, right.open::<S>(part))
+        k.folded(with_held, P::open::<S>(right))
     }
 
     /// What both sides have folded, less the cell where it would count twice.
     #[inline(always)]
-    fn folded_both<S: Sums>(self, o: Op, part: Part, left: Side, right: Side) -> Ends
-        requires fits { GlueTakes S.takes S.values (ends_in left) (ends_in right) (folded_both o part self.worth) }
+    fn folded_both<S: Sums, P: Registers, K: Folding<S>>(
+        self,
+        k: K,
+        left: Side,
+        right: Side,
+    ) -> Ends
+        requires fits { GlueTakes S.takes S.values (ends_in left) (ends_in right)
+            (folded_both (K.fold k) P.part self.worth) }
         requires worth { IsCellValue self.worth }
-        ensures { result ≡ glue_in S.values (ends_in left) (ends_in right) (folded_both o part self.worth) }
+        ensures { result ≡ glue_in S.values (ends_in left) (ends_in right)
+            (folded_both (K.fold k) P.part self.worth) }
     {
-        let before = S::joined(
-            Operator::Fold(o),
-            left.held::<S>(part),
-            left.open::<S>(part),
-        );
-        let after = S::joined(
-            Operator::Fold(o),
-            right.held::<S>(part),
-            right.open::<S>(part),
-        );
-        let both = S::joined(Operator::Fold(o), before, after);
-        match o {
-            Op::Add => S::joined(Operator::Fold(o), both, self.less_cell::<S>()),
-            Op::Max | Op::Min => both,
-        }
+        let before = k.folded(P::held::<S>(left), P::open::<S>(left));
+        let after = k.folded(P::held::<S>(right), P::open::<S>(right));
+        k.once(k.folded(before, after), self.worth)
     }
 
     /// What the cell is worth.
@@ -811,15 +724,6 @@ impl Gluing {
         ensures { result ≡ S.values.constant (Int self.worth) }
     {
         S::number(self.worth)
-    }
-
-    /// What takes the worth of the cell away again, if it was added twice: its opposite.
-    #[inline(always)]
-    fn less_cell<S: Sums>(self) -> Ends
-        requires { IsCellValue self.worth }
-        ensures { result ≡ S.values.constant (Int (neg_ℤ self.worth)) }
-    {
-        S::number(opposite(self.worth))
     }
 
     /// Whether all numbers that are added are small between hulls of which this is known. It is false between wide
@@ -899,7 +803,7 @@ impl Gluing {
             return false;
         }
         let adds = is_add(self.result) || is_add(self.fold);
-        !adds || self.is_fold_plain(Part::Whole, self.fold, left, right)
+        !adds || self.is_fold_plain::<OfWhole>(self.fold, left, right)
     }
 
     /// Whether the results of both sides are small, if they are added.
@@ -912,13 +816,13 @@ impl Gluing {
 
     /// Whether all numbers that are folded into a part by an operator are small.
     #[inline(always)]
-    fn is_fold_plain(self, part: Part, o: Op, left: Side, right: Side) -> bool
-        ensures { result ≡ true → IsFoldPlain part o self (ends_in left) (ends_in right) }
+    fn is_fold_plain<P: Registers>(self, o: Op, left: Side, right: Side) -> bool
+        ensures { result ≡ true → IsFoldPlain P.part o self (ends_in left) (ends_in right) }
     {
-        is_open_plain(o, left.open::<Plain>(part))
-            && is_open_plain(o, right.open::<Plain>(part))
-            && (!folds_held(self.trims, self.held_left) || are_plain(left.held::<Plain>(part)))
-            && (!folds_held(self.trims, self.held_right) || are_plain(right.held::<Plain>(part)))
+        is_open_plain(o, P::open::<Plain>(left))
+            && is_open_plain(o, P::open::<Plain>(right))
+            && (!folds_held(self.trims, self.held_left) || are_plain(P::held::<Plain>(left)))
+            && (!folds_held(self.trims, self.held_right) || are_plain(P::held::<Plain>(right)))
     }
 }
 
@@ -1048,14 +952,4 @@ fn folds_held(trims: bool, held: bool) -> bool
     ensures { result ≡ folds_held trims held }
 {
     if trims { held } else { true }
-}
-
-/// The opposite of what a cell is worth.
-#[inline(always)]
-fn opposite(worth: i64) -> i64
-    requires { IsCellValue worth }
-    ensures value { result ≡ neg_ℤ worth }
-    ensures cell { IsCellValue result }
-{
-    -worth
 }

@@ -1,8 +1,6 @@
 //! The registers on one side of a cell.
 
-ghost use Rattle.std.specs.Prelude.{◌≡◌, ◌≤◌, ◌<ℤ◌, pos, true};
-ghost use Rattle.ts_automaton.specs.Registers.{value_in};
-ghost use Rattle.ts_glue.specs.Glue.{held_in, open_in};
+ghost use Rattle.std.specs.Prelude.{◌≡◌, ◌≤◌, ◌<ℤ◌, true};
 ghost use Rattle.ts_meet.specs.Joints.{IsOpenPlain};
 ghost use Rattle.ts_meet.specs.Sides.{ends_in, pointed_ends, shown_ends, side_of, turned};
 ghost use Rattle.ts_row.specs.Rows.{lanes_of};
@@ -11,9 +9,7 @@ ghost use Rattle.ts_sweep.specs.Lanes.{least};
 ghost use Rattle.ts_sweep.specs.Packed.{AreSome, name_ends};
 ghost use Rattle.ts_sweep.specs.Sides.{lane_count, sides};
 
-use crate::sums::Sums;
 use ts_automaton::Op;
-use ts_glue::Part;
 use ts_sweep::packed::{Ends, LOWER, Name, Packed, PackedHull, UPPER};
 
 /// The greatest number in ends that are added without a clamp.
@@ -43,28 +39,6 @@ impl Side {
             d: register_of(h, Name::D),
             f: register_of(h, Name::F),
             r: register_of(h, Name::R),
-        }
-    }
-
-    /// The register that holds a part of an occurrence: C of the whole, E of what is taken away.
-    #[inline(always)]
-    pub(crate) fn held<S: Sums>(self, part: Part) -> Ends
-        ensures { result ≡ value_in S.values (ends_in self) (pos 0) (pos 0) (held_in part) }
-    {
-        match part {
-            Part::Whole => self.c,
-            Part::Away => self.e,
-        }
-    }
-
-    /// The register of the cells that may still come to a part: D of the whole, F of what is taken away.
-    #[inline(always)]
-    pub(crate) fn open<S: Sums>(self, part: Part) -> Ends
-        ensures { result ≡ value_in S.values (ends_in self) (pos 0) (pos 0) (open_in part) }
-    {
-        match part {
-            Part::Whole => self.d,
-            Part::Away => self.f,
         }
     }
 }

@@ -29,6 +29,8 @@ pub(crate) trait Sums: Copy {
     ghost use Rattle.ts_base.specs.Limits.{IsCellValue};
     ghost use Rattle.ts_base.specs.Spans.{one_span};
     ghost use Rattle.ts_automaton.specs.declared.expr.Operator.{Operator};
+    ghost use Rattle.ts_automaton.specs.declared.expr.Operator.TheVariants.{Fold};
+    ghost use Rattle.ts_base.specs.declared.op.Op.TheVariants.{Max, Min};
     ghost use Rattle.ts_automaton.specs.Registers.{Values};
     ghost use Rattle.ts_hull.specs.Sealed.{sealed_op};
     ghost use Rattle.ts_sweep.specs.declared.packed.Ends.{Ends};
@@ -42,6 +44,16 @@ pub(crate) trait Sums: Copy {
     fn joined(operator: Operator, first: Ends, second: Ends) -> Ends
         requires { takes operator first second }
         ensures { result ≡ values.join operator first second };
+
+    /// The greater of ends.
+    fn greatest(first: Ends, second: Ends) -> Ends
+        requires { takes (Fold Max) first second }
+        ensures { result ≡ values.join (Fold Max) first second };
+
+    /// The lesser of ends.
+    fn least(first: Ends, second: Ends) -> Ends
+        requires { takes (Fold Min) first second }
+        ensures { result ≡ values.join (Fold Min) first second };
 
     /// The ends of a number.
     fn number(x: i64) -> Ends
@@ -179,6 +191,16 @@ impl Sums for Plain {
     }
 
     #[inline(always)]
+    fn greatest(first: Ends, second: Ends) -> Ends {
+        Greater.of(first, second)
+    }
+
+    #[inline(always)]
+    fn least(first: Ends, second: Ends) -> Ends {
+        Lesser.of(first, second)
+    }
+
+    #[inline(always)]
     fn number(x: i64) -> Ends {
         number(x)
     }
@@ -207,6 +229,16 @@ impl Sums for Near {
     }
 
     #[inline(always)]
+    fn greatest(first: Ends, second: Ends) -> Ends {
+        Greater.of(first, second)
+    }
+
+    #[inline(always)]
+    fn least(first: Ends, second: Ends) -> Ends {
+        Lesser.of(first, second)
+    }
+
+    #[inline(always)]
     fn number(x: i64) -> Ends {
         number(x)
     }
@@ -230,6 +262,16 @@ impl Sums for Clamped {
             Operator::Fold(op) => AnyOperator { op }.of(first, second),
             Operator::Sub => AnyOperator { op: Op::Add }.of(first, crossed(second)),
         }
+    }
+
+    #[inline(always)]
+    fn greatest(first: Ends, second: Ends) -> Ends {
+        Greater.of(first, second)
+    }
+
+    #[inline(always)]
+    fn least(first: Ends, second: Ends) -> Ends {
+        Lesser.of(first, second)
     }
 
     #[inline(always)]
