@@ -22,7 +22,8 @@ use crate::fold::{CELLS, GREATEST, LEAST, SAME, SUM, ZERO, numbered, numbered_ma
 use crate::gluing::{Gluing, is_greatest};
 use crate::joints::{Joints, STATES};
 use crate::marked::{hull_of_both, joined, marked_by, nothing, span_of};
-use crate::seam::{Any, Apart, Between, Both, PlainApart, Seam, SmallApart, Through};
+use crate::seam::{Any, Apart, Joined, PlainApart, Seam, SmallApart};
+use crate::through::{Between, Both, Spread};
 use ts_automaton::{Mark, Op};
 use ts_base::Span;
 use ts_row::RowView;
@@ -371,10 +372,14 @@ fn along_spread<const O: u8, const N: usize>(
         return along_glued(Any, joints, gluing, left, right, values, from, cells);
     }
     if joints.trims {
-        let seam = Through::<O, true>;
+        let seam = Joined::<O, Spread<true>> {
+            through: Spread::<true>,
+        };
         along_glued(seam, joints, gluing, left, right, values, from, cells)
     } else {
-        let seam = Through::<O, false>;
+        let seam = Joined::<O, Spread<false>> {
+            through: Spread::<false>,
+        };
         along_glued(seam, joints, gluing, left, right, values, from, cells)
     }
 }
@@ -414,10 +419,12 @@ fn along_folded<const O: u8, const F: u8, const N: usize>(
         return along_glued(Any, joints, gluing, left, right, values, from, cells);
     }
     if joints.trims {
-        let seam = Between::<O, F>;
+        let seam = Joined::<O, Between<F>> {
+            through: Between::<F>,
+        };
         along_glued(seam, joints, gluing, left, right, values, from, cells)
     } else {
-        let seam = Both::<O, F>;
+        let seam = Joined::<O, Both<F>> { through: Both::<F> };
         along_glued(seam, joints, gluing, left, right, values, from, cells)
     }
 }

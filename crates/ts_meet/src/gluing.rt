@@ -318,103 +318,10 @@ impl Gluing {
         }
     }
 
-    /// The glued ends of two hulls before the mark, where one occurrence goes on that leaves a cell out at its end.
-    #[inline(always)]
-    pub(crate) fn glued_between<const N: usize>(
-        self,
-        left: &PackedHull<N>,
-        right: &PackedHull<N>,
-    ) -> Ends
-        requires registers { 6 ≤ lane_count N }
-        requires alone { (sides N ≡ BothEnds) ⊎ (self.wide ≡ false) }
-        requires left { AreSome (lane_count N) (lanes_of N left.now) }
-        requires right { AreSome (lane_count N) (lanes_of N right.now) }
-        requires worth { IsCellValue self.worth }
-        requires joined { self.joins ≡ true }
-        requires trims { self.trims ≡ true }
-        requires narrow { self.wide ≡ false }
-        requires plain { IsPlain self
-            (side_of (sides N) (lanes_of N left.now)) (side_of (sides N) (lanes_of N right.now)) }
-        ensures { IsPackOf result (seen (sides N) (glue_in sealed_spans
-            (spans_of (unpacked (lanes_of N left.now))) (spans_of (unpacked (lanes_of N right.now)))
-            (expression self))) }
-    {
-        shown::<N>(self.joined_between(left, right))
-    }
-
-    /// The glued ends of two hulls before the mark, where one occurrence goes on that keeps its last cell.
-    #[inline(always)]
-    pub(crate) fn glued_both<const N: usize>(
-        self,
-        left: &PackedHull<N>,
-        right: &PackedHull<N>,
-    ) -> Ends
-        requires registers { 6 ≤ lane_count N }
-        requires alone { (sides N ≡ BothEnds) ⊎ (self.wide ≡ false) }
-        requires left { AreSome (lane_count N) (lanes_of N left.now) }
-        requires right { AreSome (lane_count N) (lanes_of N right.now) }
-        requires worth { IsCellValue self.worth }
-        requires joined { self.joins ≡ true }
-        requires trims { self.trims ≡ false }
-        requires narrow { self.wide ≡ false }
-        requires plain { IsPlain self
-            (side_of (sides N) (lanes_of N left.now)) (side_of (sides N) (lanes_of N right.now)) }
-        ensures { IsPackOf result (seen (sides N) (glue_in sealed_spans
-            (spans_of (unpacked (lanes_of N left.now))) (spans_of (unpacked (lanes_of N right.now)))
-            (expression self))) }
-    {
-        shown::<N>(self.joined_both(left, right))
-    }
-
-    /// The glued ends of two hulls before the mark, where one occurrence of wide automata goes on and all numbers that
-    /// are added or taken away are small.
-    #[inline(always)]
-    pub(crate) fn glued_through<const N: usize>(
-        self,
-        left: &PackedHull<N>,
-        right: &PackedHull<N>,
-    ) -> Ends
-        requires registers { 6 ≤ lane_count N }
-        requires alone { (sides N ≡ BothEnds) ⊎ (self.wide ≡ false) }
-        requires left { AreSome (lane_count N) (lanes_of N left.now) }
-        requires right { AreSome (lane_count N) (lanes_of N right.now) }
-        requires worth { IsCellValue self.worth }
-        requires wide { self.wide ≡ true }
-        requires greatest { self.fold ≡ Max }
-        requires joined { self.joins ≡ true }
-        requires plain { IsPlain self
-            (side_of (sides N) (lanes_of N left.now)) (side_of (sides N) (lanes_of N right.now)) }
-        ensures { IsPackOf result (seen (sides N) (glue_in sealed_spans
-            (spans_of (unpacked (lanes_of N left.now))) (spans_of (unpacked (lanes_of N right.now)))
-            (expression self))) }
-    {
-        shown::<N>(self.joined_plainly(left, right))
-    }
-
-    /// The glued ends of two hulls before the mark, where one occurrence of wide automata goes on, with the sums of the
-    /// lanes.
-    #[inline(always)]
-    fn joined_plainly<const N: usize>(self, left: &PackedHull<N>, right: &PackedHull<N>) -> Ends
-        requires registers { 6 ≤ lane_count N }
-        requires left { AreSome (lane_count N) (lanes_of N left.now) }
-        requires right { AreSome (lane_count N) (lanes_of N right.now) }
-        requires worth { IsCellValue self.worth }
-        requires wide { self.wide ≡ true }
-        requires greatest { self.fold ≡ Max }
-        requires joined { self.joins ≡ true }
-        requires plain { IsPlain self
-            (side_of (sides N) (lanes_of N left.now)) (side_of (sides N) (lanes_of N right.now)) }
-        ensures { IsPackOf result (glue_in sealed_spans
-            (pointed_spans (sides N) (spans_of (unpacked (lanes_of N left.now))))
-            (pointed_spans (sides N) (spans_of (unpacked (lanes_of N right.now)))) (joined_expression self)) }
-    {
-        self.joined_spread(Side::of(left), Side::of(right))
-    }
-
     /// The glued ends before the mark of wide automata with the sums of the lanes, where one occurrence goes on: the
     /// greatest of its cells less the least.
     #[inline(always)]
-    fn joined_spread(self, left: Side, right: Side) -> Ends
+    pub(crate) fn joined_spread(self, left: Side, right: Side) -> Ends
         requires fits { GlueTakes TakesNear plain_values (ends_in left) (ends_in right) (spread_expression self) }
         requires worth { IsCellValue self.worth }
         ensures { result ≡ glue_in plain_values (ends_in left) (ends_in right) (spread_expression self) }
@@ -426,50 +333,10 @@ impl Gluing {
         Near::joined(join, Near::joined(join, left.r, right.r), spread)
     }
 
-    /// The glued ends of two hulls before the mark, where the cell lies between both sides of an occurrence and
-    /// all numbers that are added are small.
-    #[inline(always)]
-    fn joined_between<const N: usize>(self, left: &PackedHull<N>, right: &PackedHull<N>) -> Ends
-        requires registers { 6 ≤ lane_count N }
-        requires left { AreSome (lane_count N) (lanes_of N left.now) }
-        requires right { AreSome (lane_count N) (lanes_of N right.now) }
-        requires worth { IsCellValue self.worth }
-        requires joined { self.joins ≡ true }
-        requires trims { self.trims ≡ true }
-        requires narrow { self.wide ≡ false }
-        requires plain { IsPlain self
-            (side_of (sides N) (lanes_of N left.now)) (side_of (sides N) (lanes_of N right.now)) }
-        ensures { IsPackOf result (glue_in sealed_spans
-            (pointed_spans (sides N) (spans_of (unpacked (lanes_of N left.now))))
-            (pointed_spans (sides N) (spans_of (unpacked (lanes_of N right.now)))) (joined_expression self)) }
-    {
-        self.narrow_between(Side::of(left), Side::of(right))
-    }
-
-    /// The glued ends of two hulls before the mark, where both sides of an occurrence have the cell and all
-    /// numbers that are added are small.
-    #[inline(always)]
-    fn joined_both<const N: usize>(self, left: &PackedHull<N>, right: &PackedHull<N>) -> Ends
-        requires registers { 6 ≤ lane_count N }
-        requires left { AreSome (lane_count N) (lanes_of N left.now) }
-        requires right { AreSome (lane_count N) (lanes_of N right.now) }
-        requires worth { IsCellValue self.worth }
-        requires joined { self.joins ≡ true }
-        requires trims { self.trims ≡ false }
-        requires narrow { self.wide ≡ false }
-        requires plain { IsPlain self
-            (side_of (sides N) (lanes_of N left.now)) (side_of (sides N) (lanes_of N right.now)) }
-        ensures { IsPackOf result (glue_in sealed_spans
-            (pointed_spans (sides N) (spans_of (unpacked (lanes_of N left.now))))
-            (pointed_spans (sides N) (spans_of (unpacked (lanes_of N right.now)))) (joined_expression self)) }
-    {
-        self.narrow_both(Side::of(left), Side::of(right))
-    }
-
     /// The glued ends before the mark of narrow automata with the sums of the lanes, where the cell lies between both
     /// sides.
     #[inline(always)]
-    fn narrow_between(self, left: Side, right: Side) -> Ends
+    pub(crate) fn narrow_between(self, left: Side, right: Side) -> Ends
         requires fits { GlueTakes TakesPlain plain_values (ends_in left) (ends_in right) (between_expression self) }
         requires worth { IsCellValue self.worth }
         ensures { result ≡ glue_in plain_values (ends_in left) (ends_in right) (between_expression self) }
@@ -484,7 +351,7 @@ impl Gluing {
 
     /// The glued ends before the mark of narrow automata with the sums of the lanes, where both sides have the cell.
     #[inline(always)]
-    fn narrow_both(self, left: Side, right: Side) -> Ends
+    pub(crate) fn narrow_both(self, left: Side, right: Side) -> Ends
         requires fits { GlueTakes TakesPlain plain_values (ends_in left) (ends_in right) (both_expression self) }
         requires worth { IsCellValue self.worth }
         ensures { result ≡ glue_in plain_values (ends_in left) (ends_in right) (both_expression self) }

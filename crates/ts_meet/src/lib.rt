@@ -36,6 +36,7 @@ mod side;
 mod small;
 mod spot;
 mod sums;
+mod through;
 
 pub use alone::{finish_of, glued_pair};
 pub use along::glued_along;

@@ -3,7 +3,7 @@
 
 use crate::fold::numbered;
 use crate::gluing::Gluing;
-use ts_automaton::Op;
+use crate::through::{Through, glued_through};
 use ts_sweep::packed::{Ends, PackedHull};
 
 /// A way to glue two hulls of N lanes.
@@ -59,20 +59,11 @@ pub(crate) struct PlainApart<const O: u8>;
 #[derive(Clone, Copy)]
 pub(crate) struct SmallApart<const O: u8, const HERE: bool, const THERE: bool>;
 
-/// One occurrence of narrow automata goes on, and leaves a cell out at its end: the cell lies between both sides. All
-/// numbers that are added are small.
+/// One occurrence goes on, and all numbers that are added or taken away are small.
 #[derive(Clone, Copy)]
-pub(crate) struct Between<const O: u8, const F: u8>;
-
-/// One occurrence of narrow automata goes on, and keeps its last cell: both sides have it. All numbers that are added
-/// are small.
-#[derive(Clone, Copy)]
-pub(crate) struct Both<const O: u8, const F: u8>;
-
-/// One occurrence of wide automata goes on in which the greatest is folded, and all numbers that are added or taken
-/// away are small. `TRIMS` is whether it leaves a cell out at its end.
-#[derive(Clone, Copy)]
-pub(crate) struct Through<const O: u8, const TRIMS: bool>;
+pub(crate) struct Joined<const O: u8, T: Through> {
+    pub(crate) through: T,
+}
 
 /// Any way to glue, looked up again for each value.
 #[derive(Clone, Copy)]
@@ -138,67 +129,23 @@ impl<const O: u8, const HERE: bool, const THERE: bool, const N: usize> Seam<N>
     }
 }
 
-impl<const O: u8, const F: u8, const N: usize> Seam<N> for Between<O, F> {
-    ghost use Rattle.std.specs.Prelude.{◌≡◌, true, false};
-    ghost use Rattle.ts_meet.specs.Joints.{IsPlain, numbered};
-    ghost use Rattle.ts_meet.specs.SideLaws.{plain_with_worth};
-
-    ghost fits = { λ g. (g.joins ≡ true) × (g.trims ≡ true) × (g.result ≡ numbered O) × (g.fold ≡ numbered F)
-        × (g.wide ≡ false) };
-
-    ghost takes = { λ g a b. IsPlain g a b };
-
-    ghost any_worth = { λ g d h. h };
-
-    ghost takes_any = { λ g d a b h. plain_with_worth g d a b h };
-
-    #[inline(always)]
-    fn glued(self, gluing: Gluing, left: &PackedHull<N>, right: &PackedHull<N>) -> Ends {
-        let known = gluing.known(numbered(O), numbered(F), false);
-        known.glued_between(left, right)
-    }
-}
-
-impl<const O: u8, const F: u8, const N: usize> Seam<N> for Both<O, F> {
-    ghost use Rattle.std.specs.Prelude.{◌≡◌, true, false};
-    ghost use Rattle.ts_meet.specs.Joints.{IsPlain, numbered};
-    ghost use Rattle.ts_meet.specs.SideLaws.{plain_with_worth};
-
-    ghost fits = { λ g. (g.joins ≡ true) × (g.trims ≡ false) × (g.result ≡ numbered O) × (g.fold ≡ numbered F)
-        × (g.wide ≡ false) };
-
-    ghost takes = { λ g a b. IsPlain g a b };
-
-    ghost any_worth = { λ g d h. h };
-
-    ghost takes_any = { λ g d a b h. plain_with_worth g d a b h };
-
-    #[inline(always)]
-    fn glued(self, gluing: Gluing, left: &PackedHull<N>, right: &PackedHull<N>) -> Ends {
-        let known = gluing.known(numbered(O), numbered(F), false);
-        known.glued_both(left, right)
-    }
-}
-
-impl<const O: u8, const TRIMS: bool, const N: usize> Seam<N> for Through<O, TRIMS> {
+impl<const O: u8, T: Through, const N: usize> Seam<N> for Joined<O, T> {
     ghost use Rattle.std.specs.Prelude.{◌≡◌, true};
-    ghost use Rattle.ts_base.specs.declared.op.Op.TheVariants.{Max};
     ghost use Rattle.ts_meet.specs.Joints.{IsPlain, numbered};
     ghost use Rattle.ts_meet.specs.SideLaws.{plain_with_worth};
 
-    ghost fits = { λ g. (g.joins ≡ true) × (g.trims ≡ TRIMS) × (g.result ≡ numbered O) × (g.fold ≡ Max)
-        × (g.wide ≡ true) };
+    ghost fits = { λ g. (g.joins ≡ true) × (g.result ≡ numbered O) × T.fits g };
 
     ghost takes = { λ g a b. IsPlain g a b };
 
-    ghost any_worth = { λ g d h. h };
+    ghost any_worth = { λ g d h. (h.0, h.1, T.any_worth g d h.2) };
 
     ghost takes_any = { λ g d a b h. plain_with_worth g d a b h };
 
     #[inline(always)]
     fn glued(self, gluing: Gluing, left: &PackedHull<N>, right: &PackedHull<N>) -> Ends {
-        let known = gluing.known(numbered(O), Op::Max, true).known_trims(TRIMS);
-        known.glued_through(left, right)
+        let known = gluing.known(numbered(O), gluing.fold, gluing.wide);
+        glued_through(self.through, known, left, right)
     }
 }
 
