@@ -10,9 +10,8 @@ use Rattle.std.specs.List.{AllByRecursion}
 use Rattle.ts_domain.specs.declared.interval.Interval.{Interval}
 use Rattle.ts_domain.specs.declared.marks.Mark.{Mark}
 use Rattle.ts_domain.specs.declared.keep.Keep.{Keep}
-use Rattle.ts_domain.specs.declared.keep.Keep.TheVariants.{UpTo, Above, AllBut}
-use Rattle.ts_domain.specs.Kept.{values_kept, values_without}
-use Rattle.ts_domain.specs.Marks.{mark_at, MarksFrom, AreTold, numbers, keeps}
+use Rattle.ts_domain.specs.Kept.{keeps, values_kept, values_without}
+use Rattle.ts_domain.specs.Marks.{mark_at, MarksFrom, AreTold, numbers}
 use Rattle.ts_domain.specs.Pieces.{values_in, IsPartOf, IsMarked}
 use Rattle.ts_domain.specs.Union.{InSome, LowsRise}
 use Rattle.ts_domain.specs.Values.{IsRising, IsDomain, WithinLimits, values_of, AreRanges}
@@ -140,12 +139,6 @@ part_given rs slice items p q ms copy d test t w left view is read same e part c
     (subst (λ u. IsPartOf (values_of rs) (test u) p q) e (subst (λ l. IsPartOf (values_of l) (test w) p q) read part))
     (made ∙ ap (passing (test w)) copied ∙ ap (λ u. passing (test u) ms) e) some
 
--- the values that a change keeps are those that pass its test
-pub kept_passes : (keep : Keep) (d : List ℤ) → filter (keeps keep) d ≡ values_kept keep d
-kept_passes (UpTo t) d = refl
-kept_passes (Above t) d = refl
-kept_passes (AllBut gone) d = refl
-
 -- ranges of one number each
 abbrev pub single : ℤ → Interval
 single v = record { low = v; high = v }
@@ -189,7 +182,7 @@ kept_singles keep d read is e = subst (LowsRise bottom) (sym e)
 pub kept_renewed : (keep : Keep) (d : List ℤ) (read own : List Interval) → IsDomain d → read ≡ map single (filter (keeps keep) d) →
     ((v : ℤ) → Contains (values_of own) v ↔ InSome read v) → AreRanges own → values_of own ≡ values_kept keep d
 kept_renewed keep d read own is e union are =
-    singles_same (filter (keeps keep) d) read own (rising_filter (keeps keep) d is.rising) e union are ∙ kept_passes keep d
+    singles_same (filter (keeps keep) d) read own (rising_filter (keeps keep) d is.rising) e union are
 
 -- a number that isn't there
 pub left_without : (gone w : ℤ) (d : List ℤ) (b : Bool) → w ≡ gone → IsTrue b ↔ Contains d w → b ≡ false → values_without gone d ≡ d

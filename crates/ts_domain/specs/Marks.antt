@@ -1,13 +1,11 @@
 -- A set that differs from another one at marked numbers: some of that one's numbers are gone, some others are there.
 use Rattle.std.specs.Prelude.{ℤ, pos, neg_ℤ, ◌+ℤ◌, ◌≤ℤ◌, Bool, int_lt, if◌then◌else◌, Option, Some, None}
-use Rattle.std.specs.Prelude.{List, [], ◌∷◌, not, int_le, IsTrue, ◌↔◌, ◌++◌, filter, Contains}
+use Rattle.std.specs.Prelude.{List, [], ◌∷◌, IsTrue, ◌↔◌, ◌++◌, filter, Contains}
 use Rattle.std.specs.Ordering.{int_eq}
 use Rattle.std.specs.List.{AllByRecursion}
 use Rattle.ts_base.specs.Limits.{greatest_value}
 use Rattle.ts_domain.specs.declared.marks.Mark.{Mark}
 use Rattle.ts_domain.specs.Kept.{values_up_to, values_above}
-use Rattle.ts_domain.specs.declared.keep.Keep.{Keep}
-use Rattle.ts_domain.specs.declared.keep.Keep.TheVariants.{UpTo, Above, AllBut}
 
 -- how many numbers the set has more by a mark, and by all
 unfoldable pub gain_of : Mark → ℤ
@@ -45,12 +43,6 @@ numbers all (m ∷ ms) = (filter (λ v. int_lt v m.value) all ++ own m) ++ numbe
 -- each mark says whether its number is one of that other set
 abbrev pub AreTold : List ℤ → List Mark → Type 0
 AreTold all ms = AllByRecursion (λ m. IsTrue m.gone ↔ Contains all m.value) ms
-
--- a value that a change keeps
-abbrev pub keeps : Keep → ℤ → Bool
-keeps (UpTo t) v = int_le v t
-keeps (Above t) v = int_lt t v
-keeps (AllBut gone) v = not (int_eq v gone)
 
 -- a set with one more number
 abbrev pub put_back : ℤ → List ℤ → List ℤ

@@ -1,7 +1,7 @@
 //! Which values of a cell a change keeps.
 
 ghost use Rattle.std.specs.Prelude.{◌≡◌, filter, map, IfOk};
-ghost use Rattle.ts_domain.specs.Marks.{keeps};
+ghost use Rattle.ts_domain.specs.Kept.{keeps};
 
 use crate::domain::Domain;
 use crate::interval::Interval;

@@ -3,7 +3,7 @@ use Rattle.std.proofs.lemmas.Iterator.{items_from_collect, YieldsList-from_map}
 use Rattle.std.proofs.lemmas.Iterator.Consumers.{YieldsList-from_first, YieldsList-from_filter, YieldsList-at}
 use Rattle.std.proofs.lemmas.Result.{IfOk-at_ok}
 use Rattle.std.specs.Prelude.{filter}
-use Rattle.ts_domain.specs.Marks.{keeps}
+use Rattle.ts_domain.specs.Kept.{keeps}
 use Rattle.ts_domain.proofs.MarkKept.{single}
 use Rattle.ts_domain.proofs.keep.singles.Goals as goal
 
