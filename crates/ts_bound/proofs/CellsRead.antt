@@ -5,6 +5,7 @@ use Rattle.std.proofs.lemmas.List.{length-reverse, get_or-reverse}
 use Rattle.std.specs.Prelude.{nat_le}
 use Rattle.ts_base.specs.declared.range.Range.{Range}
 use Rattle.ts_base.specs.Windows.{LooksInside, looked_at}
+use Rattle.ts_domain.specs.Boxes.{Box, values_at}
 use Rattle.ts_bound.specs.Looks.{count_looked, is_looked, first_looked, last_looked, place_in}
 use Rattle.ts_bound.specs.TermSpans.{LooksIn, automata_of}
 use Rattle.ts_bound.proofs.Looking.{ends_inside, looked_by, looked_get, looked_length, place_inside}
@@ -12,8 +13,6 @@ use Rattle.ts_glue.specs.declared.machine.Machine.{Machine}
 use Rattle.ts_glue.specs.Machines.{window_of}
 use Rattle.ts_bound.specs.declared.reading.Direction.{Direction}
 use Rattle.ts_bound.specs.declared.reading.Direction.TheVariants.{FromFirst, FromLast}
-use Rattle.ts_bound.specs.Boxes.{Box}
-use Rattle.ts_bound.specs.HullTables.{values_at}
 use Rattle.ts_bound.specs.Reading.{in_order}
 
 -- how many they are, as the code counts them

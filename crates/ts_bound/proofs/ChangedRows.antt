@@ -1,12 +1,12 @@
 -- Rows after a change of the cells: those that stay known, or are known again, are those of the cells now.
 use Rattle.std.proofs.Common.{◌≡◌, ℕ, ◌-◌, ◌<◌, ◌≤◌, ℤ, List, [], length, take, drop, reverse, get_or, Option, Some, None, sym, ap, ◌∙◌, subst, arith}
 use Rattle.std.proofs.lemmas.List.{get_or-reverse, length-reverse}
+use Rattle.ts_domain.specs.Boxes.{Box}
 use Rattle.ts_glue.specs.Pairs.{Pair}
 use Rattle.ts_sweep.specs.Sides.{Sides}
 use Rattle.ts_bound.specs.declared.gone.Change.{Change}
 use Rattle.ts_bound.specs.declared.planned.Planned.{Planned}
 use Rattle.ts_bound.specs.AnyRows.{form_sides}
-use Rattle.ts_bound.specs.Boxes.{Box}
 use Rattle.ts_bound.specs.Gone.{AreLost}
 use Rattle.ts_bound.specs.BoxRows.{AreBehind, AreFirst, AreKeptBehind, GoOnBehind, IsChange, IsPlannedBack}
 use Rattle.ts_bound.specs.RowStacks.{AreKept, GoOn, IsLeft, Stack, sight}

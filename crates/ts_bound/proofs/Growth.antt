@@ -21,16 +21,16 @@ use Rattle.ts_automaton.specs.AutomatonRun.{move_between, registers_after, finis
 use Rattle.ts_automaton.specs.SpanRun.{none_hull, has_registers, moved_hull, finished_span, marked_span, finish_span_of}
 use Rattle.ts_automaton.proofs.Evaluation.{value_related}
 use Rattle.ts_automaton.proofs.OperatorLaws.{op_within}
+use Rattle.ts_domain.specs.Boxes.{values_at, IsInside}
 use Rattle.ts_domain.proofs.Sets.{contains_cons, all_append}
 use Rattle.ts_glue.specs.Pairs.{Pair}
 use Rattle.ts_glue.specs.Glued.{glue_span_at, glued_span}
 use Rattle.ts_glue.proofs.SpanGlue.{glued_spans_grow, wider_registers, same_grows}
 use Rattle.ts_hull.specs.Hulls.{hull_of, none, hull_of_both, hull_of_all}
 use Rattle.ts_bound.specs.NextRow.{Source, source, hull_from, next_hull, states_of}
-use Rattle.ts_bound.specs.HullTables.{hull_at, cells_before, cells_after, values_at}
+use Rattle.ts_bound.specs.HullTables.{hull_at, cells_before, cells_after}
 use Rattle.ts_bound.specs.Looks.{place_in}
 use Rattle.ts_bound.specs.TermSpans.{Automata, standing_in, span_of_all, finish_spans, glued_spans, spans_at, inner_value_span, inner_span, term_span}
-use Rattle.ts_bound.specs.Boxes.{IsInside}
 use Rattle.ts_bound.specs.Laws.{Splits, AreAutomata, SmallerBoxesAreWithin}
 use Rattle.ts_bound.proofs.Reached.{Any, any_of_map, any_flat, any_range, any_flat_range, any_mapped, spans_take}
 use Rattle.ts_bound.proofs.TableLaws.{all_range}

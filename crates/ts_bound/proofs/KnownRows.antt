@@ -4,8 +4,9 @@ use Rattle.std.proofs.lemmas.List.{append-nil, take_more, take-map, take_at, dro
 use Rattle.std.proofs.Math.ListN.{get_or-map}
 use Rattle.ts_automaton.specs.declared.regs.Hull.{Hull}
 use Rattle.ts_automaton.specs.Body.{Body}
+use Rattle.ts_domain.specs.Boxes.{Box, values_at}
 use Rattle.ts_bound.specs.Blocks.{OfReverse}
-use Rattle.ts_bound.specs.HullTables.{row_of, rows_behind, forward_rows, cells_before, cells_after, values_at}
+use Rattle.ts_bound.specs.HullTables.{row_of, rows_behind, forward_rows, cells_before, cells_after}
 use Rattle.ts_bound.specs.NextRow.{next_row}
 use Rattle.ts_bound.specs.PackedRows.{seen_row}
 use Rattle.ts_bound.proofs.SeenRows.{row_seen}
@@ -13,7 +14,6 @@ use Rattle.ts_bound.proofs.SpanRuns.{forward_row}
 use Rattle.ts_bound.proofs.TableLaws.{length-forward, length-row_of, row_on}
 use Rattle.ts_sweep.specs.Sides.{Sides}
 use Rattle.ts_glue.specs.Pairs.{Pair}
-use Rattle.ts_bound.specs.Boxes.{Box}
 use Rattle.ts_bound.specs.declared.reading.Direction.{Direction}
 use Rattle.ts_bound.specs.declared.reading.Direction.TheVariants.{FromFirst, FromLast}
 use Rattle.ts_bound.specs.BoxRows.{AreFirst, AreBehind}

@@ -5,11 +5,11 @@ use Rattle.std.specs.List.{remove_range, slice_range}
 use Rattle.std.proofs.lemmas.List.{append_assoc, get_or_default, take_at, take_more, take_all, take-take, set_split, get_or-take, get_or-drop, get_or-append-add, length-append, length-take, length-drop}
 use Rattle.ts_automaton.specs.declared.regs.Hull.{Hull}
 use Rattle.ts_automaton.specs.Body.{Body}
+use Rattle.ts_domain.specs.Boxes.{Box}
 use Rattle.ts_bound.specs.HullTables.{row_of}
 use Rattle.ts_bound.specs.PackedRows.{seen_row}
 use Rattle.ts_bound.specs.declared.gone.Gone.{Gone}
 use Rattle.ts_bound.specs.declared.planned.Planned.{Planned}
-use Rattle.ts_bound.specs.Boxes.{Box}
 use Rattle.ts_bound.specs.Gone.{AreLost}
 use Rattle.ts_bound.specs.BoxRows.{AreFirst, AreRows}
 use Rattle.ts_bound.specs.RowStacks.{AreKept, Rows, Kept, Laid, Sight, Stack, IsFilled, IsFollowed, GoOn, IsKept, IsLess, IsLessened, IsPlanned, IsSound, Stands, IsOneMore, IsTruncated, IsKnownAt, IsLeft, IsRestored, IsShown, IsSpliced, kept_at, next_seen, rows_seen, seen_by, with_row, without}

@@ -7,12 +7,12 @@ use Rattle.std.proofs.lemmas.List.{drop_all, drop_more, ext_get_or, get_or_defau
 use Rattle.std.proofs.lemmas.List.Elements.{All-cons, All-contains, All-nil, All-pop, All-push, All-weaker, Contains-append_left, Contains-push}
 use Rattle.ts_base.specs.declared.range.Range.{Range}
 use Rattle.ts_base.specs.Windows.{LooksInside, looked_at}
+use Rattle.ts_domain.specs.Boxes.{Box}
 use Rattle.ts_bound.specs.Looks.{first_looked, last_looked}
 use Rattle.ts_bound.proofs.Looking.{ends_inside, looked_length}
 use Rattle.ts_bound.specs.declared.gone.Change.{Change}
 use Rattle.ts_bound.specs.declared.gone.Gone.{Gone}
 use Rattle.ts_bound.specs.declared.gone.Other.{Other}
-use Rattle.ts_bound.specs.Boxes.{Box}
 use Rattle.ts_bound.specs.Gone.{AreLost}
 use Rattle.ts_bound.specs.BoxRows.{IsChange}
 use Rattle.ts_bound.specs.Others.{AreOthers, Covers, HasLost, IsCovered, IsElsewhere, IsWidened}

@@ -8,6 +8,7 @@ use Rattle.std.proofs.Math.Nat.{mul-div_cancel}
 use Rattle.std.proofs.lemmas.List.{take_more, take_all, reverse-append, length-map}
 use Rattle.ts_automaton.specs.declared.regs.Hull.{Hull}
 use Rattle.ts_automaton.specs.Body.{Body}
+use Rattle.ts_domain.specs.Boxes.{Box}
 use Rattle.ts_sweep.specs.declared.packed.PackedHull.{PackedHull}
 use Rattle.ts_sweep.specs.Sides.{BothEnds, has_wide, seen_hull, sides}
 use Rattle.ts_row.specs.Rows.{IsRow, flat_row}
@@ -22,7 +23,6 @@ use Rattle.ts_bound.specs.declared.any_row.Form.TheVariants.{Narrow as NarrowFor
 use Rattle.ts_bound.specs.declared.planned.Planned.{Planned}
 use Rattle.ts_bound.specs.declared.row_stack.HullRow.{HullRow}
 use Rattle.ts_bound.specs.AnyRows.{IsFormOf, IsRowOf, columns, form_lanes, form_of, form_sides, lanes_of}
-use Rattle.ts_bound.specs.Boxes.{Box}
 use Rattle.ts_bound.specs.BoxRows.{AreFirst}
 use Rattle.ts_bound.specs.RowStacks.{HasStates, IsLaid, IsPlanned, Rows, hulls_in, rows_seen, seen_by, shown, values_in}
 use Rattle.ts_bound.specs.RowWindows.{IsFresh}

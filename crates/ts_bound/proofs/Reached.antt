@@ -22,6 +22,7 @@ use Rattle.ts_automaton.specs.SpanRun.{HoldsRegs, span_step, finished_span, fini
 use Rattle.ts_automaton.proofs.RunLaws.{steps_hold, finishes_hold, marks_hold}
 use Rattle.ts_domain.specs.Values.{IsDomain, WithinLimits}
 use Rattle.ts_domain.specs.BoxSeries.{InBox, IsBox}
+use Rattle.ts_domain.specs.Boxes.{values_at}
 use Rattle.ts_domain.proofs.Sets.{contains_cons}
 use Rattle.ts_glue.specs.Pairs.{Pair}
 use Rattle.ts_glue.specs.Glued.{glued_value, glued_span}
@@ -29,7 +30,7 @@ use Rattle.ts_glue.proofs.SpanGlue.{marked_spans_hold}
 use Rattle.ts_glue.proofs.CallerLemmas.{after_back, after_stands, cut_at, answers_at_cuts}
 use Rattle.ts_hull.specs.Hulls.{hull_of, none, hull_of_both}
 use Rattle.ts_bound.specs.NextRow.{Source, source, standing_at, hull_from, next_hull, states_of}
-use Rattle.ts_bound.specs.HullTables.{start_hull, hull_at, cells_before, values_at}
+use Rattle.ts_bound.specs.HullTables.{start_hull, hull_at, cells_before}
 use Rattle.ts_bound.specs.TermSpans.{Automata, standing_in, span_of_all, finish_spans, glued_spans, spans_at, inner_value_span, inner_span, value_span, term_span, IsUsable}
 use Rattle.ts_bound.specs.Laws.{Splits, AreAutomata, SpansHold, ValueSpansAreNarrowed, ValueSpansAreWithin}
 use Rattle.ts_bound.specs.Looks.{is_looked, place_in}

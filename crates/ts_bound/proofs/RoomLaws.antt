@@ -2,9 +2,9 @@
 use Rattle.std.proofs.Common.{◌≡◌, ℕ, ℤ, ◌+◌, ◌<◌, ◌++◌, List, [], ◌∷◌, Option, length, map, take, get_or, sym, ap, ◌∙◌, arith}
 use Rattle.std.proofs.lemmas.List.{length-map, length-take-le, map-append, take_more}
 use Rattle.ts_base.specs.declared.range.Range.{Range}
+use Rattle.ts_domain.specs.Boxes.{Box}
 use Rattle.ts_bound.specs.TermSpans.{Automata, automata_of}
 use Rattle.ts_glue.specs.declared.machine.Machine.{Machine}
-use Rattle.ts_bound.specs.Boxes.{Box}
 use Rattle.ts_bound.specs.Room.{bytes_at, bytes_from, counted_at, saturated, values_from}
 
 -- one by one they make what all make at once

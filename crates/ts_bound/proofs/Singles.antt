@@ -17,10 +17,11 @@ use Rattle.ts_automaton.specs.AutomatonRun.{Standing, move_between, registers_af
 use Rattle.ts_automaton.specs.SpanRun.{none_hull, one_hull, finish_span_of}
 use Rattle.ts_automaton.proofs.Five.{none_registers}
 use Rattle.ts_automaton.proofs.RunLaws.{steps_stay_single, finishes_stay_single, nones_stay}
+use Rattle.ts_domain.specs.Boxes.{values_at}
 use Rattle.ts_glue.proofs.CallerLemmas.{after_back, after_stands, cut_at}
 use Rattle.ts_hull.specs.Hulls.{hull_of, none, hull_of_both, hull_of_all}
 use Rattle.ts_bound.specs.NextRow.{Source, source, hull_from, next_hull, states_of}
-use Rattle.ts_bound.specs.HullTables.{start_hull, hull_at, cells_before, values_at}
+use Rattle.ts_bound.specs.HullTables.{start_hull, hull_at, cells_before}
 use Rattle.ts_bound.specs.Looks.{place_in}
 use Rattle.ts_bound.specs.TermSpans.{Automata, standing_in, span_of_all, finish_spans, inner_value_span, inner_span, term_span}
 use Rattle.ts_bound.specs.Blocks.{last_at}

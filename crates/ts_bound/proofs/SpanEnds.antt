@@ -19,6 +19,7 @@ use Rattle.ts_automaton.specs.SpanRun.{has_registers, finish_span_of, one_hull}
 use Rattle.ts_automaton.proofs.Five.{none_registers}
 use Rattle.ts_automaton.proofs.Rules.{rules_of}
 use Rattle.ts_domain.specs.BoxSeries.{IsBox}
+use Rattle.ts_domain.specs.Boxes.{values_at}
 use Rattle.ts_glue.specs.declared.machine.Machine.{Machine}
 use Rattle.ts_glue.specs.declared.machine.Half.{Half}
 use Rattle.ts_glue.specs.Pairs.{Pair, pair, table_view}
@@ -29,7 +30,7 @@ use Rattle.ts_glue.proofs.SpanGlue.{none_glues_to_none}
 use Rattle.ts_glue.proofs.TwoForms.{two_forms_agree}
 use Rattle.ts_hull.specs.Hulls.{hull_of, none}
 use Rattle.ts_bound.specs.NextRow.{states_of}
-use Rattle.ts_bound.specs.HullTables.{start_hull, hull_at, hulls_at, cells_before, cells_after, values_at}
+use Rattle.ts_bound.specs.HullTables.{start_hull, hull_at, hulls_at, cells_before, cells_after}
 use Rattle.ts_bound.specs.TermSpans.{Automata, LooksIn, automata_of, standing_in, span_of_all, finish_spans, glued_spans, spans_at, inner_value_span, inner_span, value_span, term_span}
 use Rattle.ts_bound.specs.Laws.{Splits, AreAutomata}
 use Rattle.ts_meet.specs.declared.joints.Joints.{Joints}

@@ -16,7 +16,7 @@ use Rattle.ts_automaton.specs.SpanRun.{finish_span_of}
 use Rattle.ts_glue.specs.Pairs.{Pair}
 use Rattle.ts_glue.specs.Glued.{glued_span}
 use Rattle.ts_hull.specs.Hulls.{none}
-use Rattle.ts_bound.specs.HullTables.{hull_at, hulls_at, row_of, cells_before, cells_after, values_at, rows_behind, forward_rows, backward_rows, forward_table, backward_table}
+use Rattle.ts_bound.specs.HullTables.{hull_at, hulls_at, row_of, cells_before, cells_after, rows_behind, forward_rows, backward_rows, forward_table, backward_table}
 use Rattle.ts_bound.specs.TermSpans.{span_of_all}
 use Rattle.ts_bound.specs.Blocks.{standing_of, glued_by, finishes, glued_with, glued_all, OfReverse, AreBackRows, back_hulls, back_states}
 use Rattle.ts_bound.proofs.TableLaws.{length-forward, length-backward}
@@ -25,6 +25,7 @@ use Rattle.ts_bound.specs.Looks.{is_looked, count_looked, place_in}
 use Rattle.ts_bound.proofs.Looking.{looked_length, looked_get, place_bounds, windowed_at, windowed_length}
 use Rattle.ts_base.specs.declared.range.Range.{Range}
 use Rattle.ts_base.specs.Windows.{LooksInside, looked_at}
+use Rattle.ts_domain.specs.Boxes.{values_at}
 
 -- the loops over states
 

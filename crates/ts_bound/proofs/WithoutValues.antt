@@ -9,6 +9,7 @@ use Rattle.std.proofs.lemmas.List.{take-map, drop-map, map-append, get_or_append
 use Rattle.std.proofs.lemmas.List.FromFn.{length-map-range_with_len}
 use Rattle.ts_automaton.specs.declared.regs.Hull.{Hull}
 use Rattle.ts_automaton.specs.Body.{Body}
+use Rattle.ts_domain.specs.Boxes.{Box}
 use Rattle.ts_bound.specs.HullTables.{hull_at, hulls_at, row_of}
 use Rattle.ts_bound.specs.PackedRows.{seen_row}
 use Rattle.ts_row.specs.Rows.{IsColumn, IsRow, columns_part, flat_row, hull_in, lanes_of, nothing}
@@ -20,7 +21,6 @@ use Rattle.ts_bound.specs.declared.any_row.AnyRow.{AnyRow}
 use Rattle.ts_bound.specs.declared.any_row.AnyRow.TheVariants.{Narrow, Upper, Lower, Wide}
 use Rattle.ts_bound.specs.declared.planned.Planned.{Planned}
 use Rattle.ts_bound.specs.AnyRows.{columns_without, row_part, row_without}
-use Rattle.ts_bound.specs.Boxes.{Box}
 use Rattle.ts_bound.specs.RowStacks.{HasStates, hulls_in, values_in}
 
 -- a list that is made of parts of one length

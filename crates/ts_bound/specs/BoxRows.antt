@@ -2,12 +2,12 @@
 -- cells that change.
 use Rattle.std.specs.Prelude.{◌≡◌, ℕ, ◌-◌, [], List, length, take, drop, get_or, Option, None, Some}
 use Rattle.ts_automaton.specs.Body.{Body}
+use Rattle.ts_domain.specs.Boxes.{Box}
 use Rattle.ts_glue.specs.Pairs.{Pair}
 use Rattle.ts_sweep.specs.Sides.{Sides}
 use Rattle.ts_bound.specs.declared.gone.Change.{Change}
 use Rattle.ts_bound.specs.declared.planned.Planned.{Planned}
 use Rattle.ts_bound.specs.declared.reading.Direction.TheVariants.{FromLast}
-use Rattle.ts_bound.specs.Boxes.{Box}
 use Rattle.ts_bound.specs.Gone.{AreLost}
 use Rattle.ts_bound.specs.Reading.{in_order}
 use Rattle.ts_bound.specs.RowStacks.{AreKept, Kept, Rows, Laid, GoOn, IsPlanned, Sight, Stack, rows_seen, seen_by, sight}

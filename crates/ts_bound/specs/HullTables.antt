@@ -1,7 +1,7 @@
 -- The hulls of all series of a box: at each cell, for each of its values and each state, the hull of the registers that
 -- runs over series up to that cell can have there.
 use Rattle.std.specs.Prelude.{ℕ, ◌-◌, ℤ, nat_eq, if◌then◌else◌, List, [], ◌∷◌, map, flat_map, take, drop}
-use Rattle.std.specs.Prelude.{get_or, length, reverse, Option}
+use Rattle.std.specs.Prelude.{length, reverse, Option}
 use Rattle.ts_base.specs.declared.range.Range.{Range}
 use Rattle.ts_base.specs.Windows.{looked_at}
 use Rattle.ts_automaton.specs.declared.regs.Hull.{Hull}
@@ -36,9 +36,6 @@ cells_before k cells = reverse (take (k - 1) cells)
 
 abbrev pub cells_after : ℕ → List (List ℤ) → List (List ℤ)
 cells_after k cells = drop k cells
-
-abbrev pub values_at : ℕ → List (List ℤ) → List ℤ
-values_at k cells = get_or cells (k - 1) []
 
 -- the row of each cell, for an automaton that reads the cells from the first to the last
 unfoldable pub rows_behind : Body → List (List ℤ) → List (List ℤ) → List (List Hull)

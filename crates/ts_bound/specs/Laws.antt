@@ -10,11 +10,11 @@ use Rattle.ts_automaton.specs.Body.{Body}
 use Rattle.ts_automaton.specs.Typing.{is_automaton}
 use Rattle.ts_automaton.specs.AutomatonRun.{answer, AreCellValues, HoldsMark}
 use Rattle.ts_domain.specs.BoxSeries.{InBox, IsBox}
+use Rattle.ts_domain.specs.Boxes.{values_at, IsInside}
 use Rattle.ts_glue.specs.Pairs.{Pair}
 use Rattle.ts_glue.specs.Glued.{Local}
 use Rattle.ts_glue.specs.Rules.{keeps_rules}
-use Rattle.ts_bound.specs.Boxes.{IsInside}
-use Rattle.ts_bound.specs.HullTables.{row_of, values_at}
+use Rattle.ts_bound.specs.HullTables.{row_of}
 use Rattle.ts_bound.specs.NextRow.{RowStands}
 use Rattle.ts_bound.specs.Rows.{IsRow, row_at, with_written}
 use Rattle.ts_bound.specs.TermSpans.{Automata, LooksIn, IsUsable, term_span, value_span}

@@ -11,7 +11,6 @@ pub mod PackedRows
 pub mod CellLists
 pub mod AnyRows
 pub mod BoxRows
-pub mod Boxes
 pub mod Gone
 pub mod Others
 pub mod Reading

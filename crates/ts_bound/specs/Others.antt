@@ -1,10 +1,10 @@
 -- Cells of a box that may not be as they were seen, and what they change in a window. Places count from 0.
 use Rattle.std.specs.Prelude.{◌≡◌, ◌≢◌, ◌⊎◌, ℕ, ◌+◌, ◌-◌, ◌<◌, ◌≤◌, List, [], Contains, length, get_or, Option, Some, None}
 use Rattle.std.specs.List.{All}
+use Rattle.ts_domain.specs.Boxes.{Box}
 use Rattle.ts_bound.specs.declared.gone.Change.{Change}
 use Rattle.ts_bound.specs.declared.gone.Gone.{Gone}
 use Rattle.ts_bound.specs.declared.gone.Other.{Other}
-use Rattle.ts_bound.specs.Boxes.{Box}
 use Rattle.ts_bound.specs.Gone.{AreLost}
 
 -- none of them is at place i

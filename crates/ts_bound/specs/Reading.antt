@@ -1,10 +1,10 @@
 -- The cells that a machine looks at, in the order in which one of its automata reads them.
 use Rattle.std.specs.Prelude.{◌≡◌, ◌<◌, ◌-◌, ℕ, ℤ, List, [], get_or, reverse}
 use Rattle.ts_base.specs.Windows.{looked_at}
+use Rattle.ts_domain.specs.Boxes.{Box}
 use Rattle.ts_bound.specs.declared.reading.Reading.{Reading}
 use Rattle.ts_bound.specs.declared.reading.Direction.{Direction}
 use Rattle.ts_bound.specs.declared.reading.Direction.TheVariants.{FromFirst, FromLast}
-use Rattle.ts_bound.specs.Boxes.{Box}
 
 -- the cells in that order
 abbrev pub in_order : Direction → Box → Box

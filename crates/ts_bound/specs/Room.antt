@@ -3,10 +3,10 @@ use Rattle.std.specs.Prelude.{ℕ, ℤ, ◌+◌, ◌*◌, List, [], ◌∷◌, O
 use Rattle.std.specs.List.{list_any}
 use Rattle.ts_base.specs.declared.range.Range.{Range}
 use Rattle.ts_automaton.specs.Body.{Body}
+use Rattle.ts_domain.specs.Boxes.{Box}
 use Rattle.ts_bound.specs.Blocks.{back_states}
 use Rattle.ts_bound.specs.Looks.{is_looked}
 use Rattle.ts_bound.specs.TermSpans.{Automata}
-use Rattle.ts_bound.specs.Boxes.{Box}
 
 -- a cell counts for its values, and for eight at least
 abbrev pub counted : List ℤ → ℕ

@@ -4,6 +4,7 @@ use Rattle.std.specs.List.{remove_range, slice_range}
 use Rattle.ts_automaton.specs.declared.regs.Hull.{Hull}
 use Rattle.ts_automaton.specs.Body.{Body}
 use Rattle.ts_automaton.specs.Typing.{is_automaton}
+use Rattle.ts_domain.specs.Boxes.{Box}
 use Rattle.ts_sweep.specs.Sides.{Sides, BothEnds}
 use Rattle.ts_row.specs.Plans.{IsPlanOf}
 use Rattle.ts_row.specs.Rows.{IsRow, flat_row}
@@ -15,7 +16,6 @@ use Rattle.ts_bound.specs.declared.planned.Planned.{Planned}
 use Rattle.ts_bound.specs.declared.row_stack.HullRow.{HullRow}
 use Rattle.ts_bound.specs.declared.any_row.AnyRow.{AnyRow}
 use Rattle.ts_bound.specs.AnyRows.{IsFormOf, columns, form_of, form_sides, lanes_of, row_part}
-use Rattle.ts_bound.specs.Boxes.{Box}
 
 -- an automaton, and which ends are kept of the hulls of its registers
 pub record Sight : Type 0 where

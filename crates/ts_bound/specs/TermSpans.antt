@@ -8,12 +8,13 @@ use Rattle.ts_automaton.specs.Registers.{spans_of}
 use Rattle.ts_automaton.specs.Body.{Body}
 use Rattle.ts_automaton.specs.AutomatonRun.{Standing}
 use Rattle.ts_automaton.specs.SpanRun.{finish_span_of}
+use Rattle.ts_domain.specs.Boxes.{values_at}
 use Rattle.ts_glue.specs.declared.machine.Machine.{Machine}
 use Rattle.ts_glue.specs.Pairs.{Pair}
 use Rattle.ts_glue.specs.Machines.{forward_of, pair_of, window_of}
 use Rattle.ts_glue.specs.Glued.{glued_span}
 use Rattle.ts_bound.specs.NextRow.{states_of}
-use Rattle.ts_bound.specs.HullTables.{hull_at, cells_before, cells_after, values_at}
+use Rattle.ts_bound.specs.HullTables.{hull_at, cells_before, cells_after}
 use Rattle.ts_bound.specs.Looks.{is_looked, place_in}
 
 -- a machine as contracts see it: its forward automaton, the pair that it was made of, if it can be split, and its

@@ -25,9 +25,9 @@ pub struct Reading<'a> {
 }
 
 impl<'a> Reading<'a> {
-    ghost use Rattle.ts_bound.specs.HullTables.{values_at};
     ghost use Rattle.ts_bound.specs.Reading.{cells_read};
     ghost use Rattle.ts_domain.specs.BoxSeries.{IsCell};
+    ghost use Rattle.ts_domain.specs.Boxes.{values_at};
 
     /// How many cells are read.
     pub fn count(self) -> usize

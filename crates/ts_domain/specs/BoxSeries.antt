@@ -1,6 +1,7 @@
 -- A box has one set of numbers per cell, each as its rising list; its series take each value from the set of its cell.
-use Rattle.std.specs.Prelude.{◌≡◌, ◌⊎◌, ℕ, ◌-◌, ◌≤◌, ℤ, ◌<ℤ◌, List, [], ◌∷◌, ◌++◌, length, map, take, get_or, set}
+use Rattle.std.specs.Prelude.{◌≡◌, ◌⊎◌, ℕ, ℤ, ◌<ℤ◌, List, [], ◌∷◌, ◌++◌, length, map, take, get_or}
 use Rattle.std.specs.List.{Contains, AllByRecursion, flat_map}
+use Rattle.ts_domain.specs.Boxes.{HasCell, values_at, with_values}
 use Rattle.ts_domain.specs.Values.{IsDomain}
 
 -- the series is one of the box
@@ -43,17 +44,17 @@ pub record Boxes : Type 0 where
 abbrev pub all_boxes : Boxes → List (List (List ℤ))
 all_boxes b = b.earlier ++ b.present ∷ []
 
--- k is the number of a cell, counted from 1
+-- k is the number of a cell
 abbrev pub IsCell : ℕ → Boxes → Type 0
-IsCell k b = (1 ≤ k) × (k ≤ length b.present)
+IsCell k b = HasCell k b.present
 
 -- the set of cell k in the present box
 abbrev pub cell_of : ℕ → Boxes → List ℤ
-cell_of k b = get_or b.present (k - 1) []
+cell_of k b = values_at k b.present
 
 -- one more box: the present one, of which cell k keeps what `keep` leaves
 abbrev pub box_with : ℕ → (List ℤ → List ℤ) → Boxes → Boxes
-box_with k keep b = record { earlier = all_boxes b; present = set b.present (k - 1) (keep (cell_of k b)) }
+box_with k keep b = record { earlier = all_boxes b; present = with_values k (keep (cell_of k b)) b.present }
 
 -- back to the box at a place, counted from 0
 abbrev pub back_to : ℕ → Boxes → Boxes

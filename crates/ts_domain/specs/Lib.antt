@@ -1,4 +1,5 @@
 pub mod BoxSeries
+pub mod Boxes
 pub mod Counts
 pub mod Kept
 pub mod MarkTree

@@ -11,11 +11,11 @@ use Rattle.ts_base.specs.Spans.{none_span, span_hull}
 use Rattle.ts_automaton.specs.declared.regs.Hull.{Hull}
 use Rattle.ts_automaton.specs.Body.{Body}
 use Rattle.ts_domain.specs.BoxSeries.{IsBox}
-use Rattle.ts_bound.specs.HullTables.{hulls_at, row_of, values_at}
+use Rattle.ts_bound.specs.HullTables.{hulls_at, row_of}
 use Rattle.ts_bound.specs.TermSpans.{span_of_all}
 use Rattle.ts_bound.proofs.SpanEnds.{within_of}
 use Rattle.ts_bound.proofs.SpanRuns.{length-hulls_at}
-use Rattle.ts_filter.specs.Boxes.{Box}
+use Rattle.ts_filter.specs.Boxes.{Box, values_at}
 
 -- the hulls of one value in a row
 

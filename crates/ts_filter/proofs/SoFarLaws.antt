@@ -11,7 +11,6 @@ use Rattle.ts_base.specs.SpanLayer.{IsWithin}
 use Rattle.ts_base.specs.Spans.{Holds, none_span, span_hull}
 use Rattle.ts_base.proofs.SpanLaws.{hull_left, hull_right, hull_least, none_empty}
 use Rattle.ts_base.specs.Windows.{looked_at}
-use Rattle.ts_bound.specs.HullTables.{values_at as bound_values_at}
 use Rattle.ts_bound.specs.Looks.{is_looked, place_in}
 use Rattle.ts_bound.specs.TermSpans.{Automata, inner_span, inner_value_span, span_of_all, spans_at, term_span, value_span}
 use Rattle.ts_hull.proofs.HullLaws.{IsCanonical, hull_canonical}
@@ -25,7 +24,7 @@ use Rattle.ts_filter.specs.Alike.{AreAlike, FindsAlike}
 use Rattle.ts_filter.specs.Ends.{best_end}
 use Rattle.ts_filter.specs.Excluded.{Refutes}
 use Rattle.ts_filter.specs.Question.{AsksEach, Excludes}
-use Rattle.ts_filter.specs.Boxes.{Box}
+use Rattle.ts_filter.specs.Boxes.{Box, values_at}
 use Rattle.ts_filter.specs.SoFar.{IsSoFar, IsWholeSpan, WithParts}
 use Rattle.ts_filter.specs.TermDrops.{IsFirstRefuting}
 use Rattle.ts_filter.proofs.AlikeLaws.{alike_alone, excludes_so, finds_back, finds_joined, finds_on, finds_same, finds_with, first_so, hull_assoc, hull_comm}
@@ -156,7 +155,7 @@ term_canonical : (m : Automata) (k : ℕ) (b : Box) → IsCanonical (term_span m
 unfolding term_span inner_span
 term_canonical m k b =
     let place = place_in m.window k in let cells = looked_at m.window b in
-    fold_canonical (map (inner_value_span m place cells) (bound_values_at place cells)) none_span refl
+    fold_canonical (map (inner_value_span m place cells) (values_at place cells)) none_span refl
 
 pub value_canonical : (m : Automata) (k : ℕ) (b : Box) (v : ℤ) → IsCanonical (value_span m k b v)
 unfolding value_span

@@ -1,17 +1,8 @@
 -- What the lines of a tree make of a box, one rising list of values a cell. Cells count from 1.
-use Rattle.std.specs.Prelude.{ℕ, ◌-◌, ◌≤◌, ◌⊎◌, ℤ, List, [], ◌∷◌, length, map, set}
+use Rattle.std.specs.Prelude.{ℕ, ◌⊎◌, ℤ, List, [], ◌∷◌, map}
 use Rattle.ts_domain.specs.BoxSeries.{InBox, IsBox}
 use Rattle.ts_domain.specs.Kept.{values_up_to, values_above, values_without}
-pub use Rattle.ts_bound.specs.Boxes.{Box, IsInside}
-pub use Rattle.ts_bound.specs.HullTables.{values_at}
-
--- k is the number of a cell
-abbrev pub HasCell : ℕ → Box → Type 0
-HasCell k b = (1 ≤ k) × (k ≤ length b)
-
--- the box with other values in cell k
-abbrev pub with_values : ℕ → List ℤ → Box → Box
-with_values k values b = set b (k - 1) values
+pub use Rattle.ts_domain.specs.Boxes.{Box, HasCell, values_at, with_values, IsInside}
 
 -- the two sides of a split: the values of cell k up to t, and those above t
 abbrev pub low_side : ℕ → ℤ → Box → Box

@@ -5,9 +5,10 @@ use Rattle.ts_automaton.specs.declared.regs.Hull.{Hull}
 use Rattle.ts_automaton.specs.Body.{Body}
 use Rattle.ts_automaton.specs.Typing.{is_automaton}
 use Rattle.ts_base.specs.declared.range.Range.{Range}
+use Rattle.ts_domain.specs.Boxes.{values_at}
 use Rattle.ts_bound.proofs.SpanRuns.{forward_row}
 use Rattle.ts_bound.proofs.TableLaws.{length-forward, length-row_of, row_stands}
-use Rattle.ts_bound.specs.HullTables.{forward_table, row_of, values_at}
+use Rattle.ts_bound.specs.HullTables.{forward_table, row_of}
 use Rattle.ts_bound.specs.NextRow.{RowStands}
 use Rattle.ts_bound.specs.Rows.{IsRow, row_at}
 

@@ -14,7 +14,7 @@ use Rattle.ts_base.proofs.SpanLaws.{hull_least, hull_left, holds_one, holds_some
 use Rattle.ts_automaton.specs.declared.state.Mark.TheVariants.{Zero}
 use Rattle.ts_automaton.specs.AutomatonRun.{under_mark}
 use Rattle.ts_automaton.specs.SpanRun.{marked_span}
-use Rattle.ts_bound.specs.Boxes.{IsInside}
+use Rattle.ts_domain.specs.Boxes.{IsInside}
 use Rattle.ts_bound.specs.TermSpans.{Automata, term_span}
 use Rattle.ts_bound.proofs.Growth.{term_in_inside}
 

@@ -2,9 +2,10 @@ use Rattle.std.proofs.Common.{◌≡◌, sym, ap, ◌∙◌, ◌-◌, length, re
 use Rattle.std.proofs.lemmas.Int.{to_z-of_z}
 use Rattle.ts_base.specs.Limits.{IsCellValue}
 use Rattle.ts_base.specs.Windows.{looked_at}
+use Rattle.ts_domain.specs.Boxes.{values_at}
 use Rattle.ts_glue.specs.Machines.{forward_of, pair_of, window_of}
 use Rattle.ts_bound.specs.Blocks.{AreBackRows, finishes}
-use Rattle.ts_bound.specs.HullTables.{cells_before, cells_after, values_at}
+use Rattle.ts_bound.specs.HullTables.{cells_before, cells_after}
 use Rattle.ts_bound.specs.Looks.{count_looked, place_in}
 use Rattle.ts_bound.specs.TermSpans.{automata_of, span_of_all}
 use Rattle.ts_bound.proofs.FitLaws.{after_within, back_fit, before_within, value_hulls_fit}

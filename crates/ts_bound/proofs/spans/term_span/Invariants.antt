@@ -1,5 +1,5 @@
 use Rattle.std.proofs.Common.{◌≡◌, map, take}
-use Rattle.ts_bound.specs.HullTables.{values_at}
+use Rattle.ts_domain.specs.Boxes.{values_at}
 use Rattle.ts_bound.specs.TermSpans.{automata_of, span_of_all}
 use Rattle.ts_bound.proofs.SpanEnds.{value_there}
 use Rattle.ts_bound.proofs.spans.term_span.Given as goal
