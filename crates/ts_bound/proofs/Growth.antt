@@ -31,7 +31,7 @@ use Rattle.ts_bound.specs.NextRow.{Source, source, hull_from, next_hull, states_
 use Rattle.ts_bound.specs.HullTables.{hull_at, cells_before, cells_after}
 use Rattle.ts_bound.specs.Looks.{place_in}
 use Rattle.ts_bound.specs.TermSpans.{Automata, standing_in, span_of_all, finish_spans, glued_spans, spans_at, inner_value_span, inner_span, term_span}
-use Rattle.ts_bound.specs.Laws.{Splits, AreAutomata, SmallerBoxesAreWithin}
+use Rattle.ts_bound.specs.Laws.{Splits, AreAutomata}
 use Rattle.ts_bound.proofs.Reached.{Any, any_of_map, any_flat, any_range, any_flat_range, any_mapped, spans_take}
 use Rattle.ts_bound.proofs.TableLaws.{all_range}
 
@@ -329,7 +329,9 @@ forward_of_pair : (b : Body) (o : Option Pair) → IfSome o (Splits b) → IfSom
 forward_of_pair b None s = tt
 forward_of_pair b (Some p) s = s.forward
 
-pub smaller_within : SmallerBoxesAreWithin
+-- where the mark leaves each answer as it is, the span of a smaller box lies in that of a larger one
+pub smaller_within : (m : Automata) → AreAutomata m → m.forward.mark ≡ Same → (cells wider : List (List ℤ)) → IsInside cells wider → (k : ℕ) →
+    IsWithin (term_span m k cells) (term_span m k wider)
 smaller_within m are mark cells wider a k =
     let h = term_span m k wider in
     term_in_inside Same h (λ n s t w all. within_trans (marked_span Same n s) (marked_span Same n t) h (same_grows n s t w) all) m mark

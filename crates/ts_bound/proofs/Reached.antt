@@ -31,8 +31,8 @@ use Rattle.ts_glue.proofs.CallerLemmas.{after_back, after_stands, cut_at, answer
 use Rattle.ts_hull.specs.Hulls.{hull_of, none, hull_of_both}
 use Rattle.ts_bound.specs.NextRow.{Source, source, standing_at, hull_from, next_hull, states_of}
 use Rattle.ts_bound.specs.HullTables.{start_hull, hull_at, cells_before}
-use Rattle.ts_bound.specs.TermSpans.{Automata, standing_in, span_of_all, finish_spans, glued_spans, spans_at, inner_value_span, inner_span, value_span, term_span, IsUsable}
-use Rattle.ts_bound.specs.Laws.{Splits, AreAutomata, SpansHold, ValueSpansAreNarrowed, ValueSpansAreWithin}
+use Rattle.ts_bound.specs.TermSpans.{Automata, standing_in, span_of_all, finish_spans, glued_spans, spans_at, inner_value_span, inner_span, value_span, term_span, IsUsable, LooksIn}
+use Rattle.ts_bound.specs.Laws.{Splits, AreAutomata, SpansHold, ValueSpansAreNarrowed}
 use Rattle.ts_bound.specs.Looks.{is_looked, place_in}
 use Rattle.ts_hull.proofs.HullLaws.{IsCanonical, hull_canonical}
 use Rattle.ts_bound.proofs.Looking.{looked_length, place_bounds, place_usable, looked_get, looked_set, looked_miss}
@@ -342,7 +342,9 @@ inner_within m cells k v c e h =
     spans_take e (map (inner_value_span m k cells) (values_at k cells)) none_span
     (any_mapped (λ t. Holds t e) (inner_value_span m k cells) (values_at k cells) v c h)
 
-pub values_within : ValueSpansAreWithin
+-- the span of the box with one value alone at a cell lies in that of the whole box
+pub values_within : (m : Automata) (cells : List (List ℤ)) → LooksIn m cells → (k : ℕ) (v : ℤ) → Contains (values_at k cells) v →
+    IsWithin (value_span m k cells v) (term_span m k cells)
 unfolding value_span term_span
 values_within m cells looks k v c = go (is_looked m.window k) refl
   where

@@ -1,16 +1,13 @@
 -- What the layers above know of spans, in which nothing speaks of hulls; and of rows of hulls.
-use Rattle.std.specs.Prelude.{◌≡◌, ◌≤◌, ℕ, ◌+◌, ◌-◌, ℤ, IsTrue, IfSome, Contains, List, [], ◌∷◌, ◌++◌, length, map, set}
+use Rattle.std.specs.Prelude.{◌≡◌, ◌≤◌, ℕ, ◌+◌, ◌-◌, ℤ, IsTrue, IfSome, List, [], ◌∷◌, ◌++◌, length, map, set}
 use Rattle.ts_base.specs.Limits.{most_cells}
 use Rattle.ts_base.specs.Windows.{looked_at}
-use Rattle.ts_base.specs.SpanLayer.{IsWithin}
 use Rattle.ts_base.specs.Spans.{one_span, Holds}
 use Rattle.ts_automaton.specs.declared.regs.Hull.{Hull}
-use Rattle.ts_automaton.specs.declared.state.Mark.TheVariants.{Same}
 use Rattle.ts_automaton.specs.Body.{Body}
 use Rattle.ts_automaton.specs.Typing.{is_automaton}
 use Rattle.ts_automaton.specs.AutomatonRun.{answer, AreCellValues, HoldsMark}
 use Rattle.ts_domain.specs.BoxSeries.{InBox, IsBox}
-use Rattle.ts_domain.specs.Boxes.{values_at, IsInside}
 use Rattle.ts_glue.specs.Pairs.{Pair}
 use Rattle.ts_glue.specs.Glued.{Local}
 use Rattle.ts_glue.specs.Rules.{keeps_rules}
@@ -45,20 +42,6 @@ ValueSpansAreNarrowed =
     (m : Automata) (cells : List (List ℤ)) → LooksIn m cells →
     (k : ℕ) → 1 ≤ k → k ≤ length cells → (v : ℤ) →
     term_span m k (set cells (k - 1) (v ∷ [])) ≡ value_span m k cells v
-
--- it lies in the span of the whole box
-abbrev pub ValueSpansAreWithin : Type 0
-ValueSpansAreWithin =
-    (m : Automata) (cells : List (List ℤ)) → LooksIn m cells →
-    (k : ℕ) (v : ℤ) → Contains (values_at k cells) v →
-    IsWithin (value_span m k cells v) (term_span m k cells)
-
--- where the mark leaves each answer as it is, the span of a smaller box lies in that of a larger one
-abbrev pub SmallerBoxesAreWithin : Type 0
-SmallerBoxesAreWithin =
-    (m : Automata) → AreAutomata m → m.forward.mark ≡ Same →
-    (cells wider : List (List ℤ)) → IsInside cells wider → (k : ℕ) →
-    IsWithin (term_span m k cells) (term_span m k wider)
 
 -- on a box of one series the span at the last cell is exactly the answer on the cells that are looked at
 abbrev pub SpansStaySingle : Type 0

@@ -3,12 +3,10 @@
 ghost use Rattle.ts_bound.specs.Laws.{
   AreAutomata,
   RowsStand,
-  SmallerBoxesAreWithin,
   SpansHold,
   SpansStaySingle,
   TwoWrittenRowsAreSet,
   ValueSpansAreNarrowed,
-  ValueSpansAreWithin,
   WrittenRowsAreSet,
 };
 ghost use Rattle.ts_bound.specs.TermSpans.{automata_of};
@@ -20,11 +18,6 @@ pub fn spans_hold()
     ensures { SpansHold }
 {}
 
-/// Where the mark leaves each answer as it is, the span of a smaller box lies in that of a larger one.
-pub fn smaller_boxes_are_within()
-    ensures { SmallerBoxesAreWithin }
-{}
-
 /// On a box of one series the span at the last cell is exactly the answer.
 pub fn spans_stay_single()
     ensures { SpansStaySingle }
@@ -33,11 +26,6 @@ pub fn spans_stay_single()
 /// The span of the box with one value alone at a cell is read off the whole box there.
 pub fn value_spans_are_narrowed()
     ensures { ValueSpansAreNarrowed }
-{}
-
-/// The span of the box with one value alone at a cell lies in that of the whole box.
-pub fn value_spans_are_within()
-    ensures { ValueSpansAreWithin }
 {}
 
 /// Each row of a table is one from which `fill_row` makes the next one.
