@@ -5,8 +5,9 @@ use Rattle.std.proofs.lemmas.Option.{get_or_from_slice_get, slice_get-get_or}
 use Rattle.std.proofs.lemmas.List.Elements.{Contains-get_or}
 use Rattle.std.proofs.lemmas.Int.{ints}
 use Rattle.std.specs.List.{AllByRecursion}
+use Rattle.ts_base.specs.Limits.{IsCellValue}
 use Rattle.ts_domain.specs.Values.{WithinLimits, IsRising, IsDomain}
-use Rattle.ts_sweep.specs.Small.{AreSmall, IsCell, IsSmall, Rises}
+use Rattle.ts_sweep.specs.Small.{AreSmall, IsSmall, Rises}
 
 above_at : (v : ℤ) (vs : List ℤ) (j : ℕ) → AllByRecursion (λ y. v <ℤ y) vs → j < length vs → v <ℤ get_or vs j (pos 0)
 above_at v [] j h lt = absurd (omega (arith, lt))
@@ -31,14 +32,11 @@ within_at (v ∷ vs) h (suc i) lt = within_at vs h.1 i (omega (arith, lt))
 limit_small : (v : ℤ) → WithinLimits v → IsSmall v
 limit_small v h = let a = h.0 in let b = h.1 in (omega (arith, ints, a, b), omega (arith, ints, a, b))
 
-limit_cell : (v : ℤ) → WithinLimits v → IsCell v
-limit_cell v h = let a = h.0 in let b = h.1 in (omega (arith, ints, a, b), omega (arith, ints, a, b))
-
 pub domain_small : (vs : List ℤ) → IsDomain vs → AreSmall vs
 domain_small vs d i lt = limit_small (get_or vs i (pos 0)) (within_at vs d.within i lt)
 
-pub cells_at : (vs : List ℤ) → IsDomain vs → (i : ℕ) → i < length vs → IsCell (get_or vs i (pos 0))
-cells_at vs d i lt = limit_cell (get_or vs i (pos 0)) (within_at vs d.within i lt)
+pub cells_at : (vs : List ℤ) → IsDomain vs → (i : ℕ) → i < length vs → IsCellValue (get_or vs i (pos 0))
+cells_at vs d = within_at vs d.within
 
 -- where a value stands
 place_of : (vs : List ℤ) (x : ℤ) → Contains vs x → (k : ℕ) × (k < length vs) × (get_or vs k (pos 0) ≡ x)
@@ -47,8 +45,8 @@ place_of vs x (k, lt, e) = (k, lt, get_or_from_slice_get vs k (get_or vs k x) (p
 pub domain_end : (vs : List ℤ) (x : ℤ) → IsDomain vs → Contains vs x → WithinLimits x
 domain_end vs x d has = let p = place_of vs x has in subst WithinLimits p.2 (within_at vs d.within p.0 p.1)
 
-pub domain_cell : (vs : List ℤ) (x x' : ℤ) → x' ≡ x → IsDomain vs → Contains vs x → IsCell x'
-domain_cell vs x x' e d has = subst IsCell (sym e) (limit_cell x (domain_end vs x d has))
+pub domain_cell : (vs : List ℤ) (x x' : ℤ) → x' ≡ x → IsDomain vs → Contains vs x → IsCellValue x'
+domain_cell vs x x' e d has = subst IsCellValue (sym e) (domain_end vs x d has)
 
 -- a value that comes d places later is at least d greater
 apart : (vs : List ℤ) → Rises vs → (i d : ℕ) → i + d < length vs → (get_or vs i (pos 0) +ℤ pos d) ≤ℤ get_or vs (i + d) (pos 0)

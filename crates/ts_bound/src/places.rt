@@ -2,7 +2,7 @@
 
 ghost use Rattle.std.specs.Prelude.{◌≡◌, ℕ, ◌<◌, ◌≤◌, true, pos, ◌+ℤ◌, length, get_or};
 ghost use Rattle.ts_base.specs.Limits.{IsCellValue};
-ghost use Rattle.ts_sweep.specs.Small.{AreSmall, IsCell, Rises};
+ghost use Rattle.ts_sweep.specs.Small.{AreSmall, Rises};
 
 use ts_domain::Domain;
 use ts_sweep::values::{Run, Values};
@@ -18,7 +18,7 @@ pub(crate) struct Places<'a> {
     ghost few: { count ≤ 2000001 },
     ghost small: { AreSmall domain.now },
     ghost rises: { Rises domain.now },
-    ghost cell: { IsCell first },
+    ghost cell: { IsCellValue first },
     ghost run: { is_run ≡ true → (i : ℕ) → i < length domain.now → (first +ℤ pos i) ≡ get_or domain.now i (pos 0) },
 }
 

@@ -1,7 +1,8 @@
 //! The values of a cell as rows read them.
 
 ghost use Rattle.std.specs.Prelude.{◌≡◌, ℕ, ◌<◌, ◌≤◌, true, pos, ◌+ℤ◌, length, get_or};
-ghost use Rattle.ts_sweep.specs.Small.{AreSmall, IsCell, Rises};
+ghost use Rattle.ts_base.specs.Limits.{IsCellValue};
+ghost use Rattle.ts_sweep.specs.Small.{AreSmall, Rises};
 
 use ts_sweep::values::{Run, Values};
 
@@ -13,7 +14,7 @@ pub struct Cell<'a> {
     pub is_run: bool,
     ghost small: { AreSmall values.now },
     ghost rises: { Rises values.now },
-    ghost first: { is_run ≡ true → 0 < length values.now → IsCell (get_or values.now 0 (pos 0)) },
+    ghost first: { is_run ≡ true → 0 < length values.now → IsCellValue (get_or values.now 0 (pos 0)) },
     ghost few: { length values.now ≤ 2000001 },
     ghost run: { is_run ≡ true → (i : ℕ) → i < length values.now →
         (get_or values.now 0 (pos 0) +ℤ pos i) ≡ get_or values.now i (pos 0) },

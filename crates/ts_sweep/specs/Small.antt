@@ -7,9 +7,6 @@ IsSmall x = (neg_ℤ (pos 10000000) ≤ℤ x) × (x ≤ℤ pos 10000000)
 abbrev pub AreSmall : List ℤ → Type 0
 AreSmall vs = (i : ℕ) → i < length vs → IsSmall (get_or vs i (pos 0))
 
-abbrev pub IsCell : ℤ → Type 0
-IsCell x = (neg_ℤ (pos 1000000) ≤ℤ x) × (x ≤ℤ pos 1000000)
-
 abbrev pub IsAhead : ℤ → Type 0
 IsAhead x = (neg_ℤ (pos 9000000) ≤ℤ x) × (x ≤ℤ pos 9000000)
 

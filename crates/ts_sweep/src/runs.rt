@@ -1,7 +1,8 @@
 //! Sweeps over two cells without gaps: one counted loop.
 
 ghost use Rattle.std.specs.Prelude.{◌≡◌, ℕ, pos, neg_ℤ, ◌<◌, ◌≤◌, ◌+◌, ◌-◌, ◌≢◌, ◌+ℤ◌, length, get_or};
-ghost use Rattle.ts_sweep.specs.Small.{IsAhead, IsCell, IsCut, IsSmall, ahead_of, with_twin};
+ghost use Rattle.ts_base.specs.Limits.{IsCellValue};
+ghost use Rattle.ts_sweep.specs.Small.{IsAhead, IsCut, IsSmall, ahead_of, with_twin};
 ghost use Rattle.ts_sweep.specs.Sweeps.{IsTakenIn, Leads, passed_hull, step_place};
 
 use crate::column::Column;
@@ -13,9 +14,9 @@ use crate::values::{Run, Values};
 /// How far one cell is ahead of the next, in the order of the sweep.
 #[inline(always)]
 fn ahead<const UP: bool>(values: Run, next_values: Run) -> i64
-    requires first { IsCell values.first }
+    requires first { IsCellValue values.first }
     requires few { values.count ≤ 2000001 }
-    requires next_first { IsCell next_values.first }
+    requires next_first { IsCellValue next_values.first }
     requires next_few { next_values.count ≤ 2000001 }
     ensures value { result ≡ ahead_of UP values.first values.count next_values.first next_values.count }
     ensures small { IsAhead result }
@@ -30,7 +31,7 @@ fn ahead<const UP: bool>(values: Run, next_values: Run) -> i64
 /// The value after the last one of a cell.
 #[inline(always)]
 pub(crate) fn end_of(values: Run) -> i64
-    requires first { IsCell values.first }
+    requires first { IsCellValue values.first }
     requires few { values.count ≤ 2000001 }
     ensures { result ≡ values.first +ℤ pos values.count }
 {
@@ -74,9 +75,9 @@ struct Lead {
 /// How many values are passed at the first step; below 0 if the first value is passed at a later one.
 #[inline(always)]
 fn whole_lead<const UP: bool>(twin: bool, values: Run, next_values: Run) -> i64
-    requires first { IsCell values.first }
+    requires first { IsCellValue values.first }
     requires few { values.count ≤ 2000001 }
-    requires next_first { IsCell next_values.first }
+    requires next_first { IsCellValue next_values.first }
     requires next_few { next_values.count ≤ 2000001 }
     ensures value { result
         ≡ with_twin twin (ahead_of UP values.first values.count next_values.first next_values.count) }
@@ -105,9 +106,9 @@ fn cut_lead(lead: i64, count: usize, next_count: usize) -> Lead
 /// The lead of a sweep.
 #[inline(always)]
 fn lead_of<const UP: bool>(twin: bool, values: Run, next_values: Run) -> Lead
-    requires first { IsCell values.first }
+    requires first { IsCellValue values.first }
     requires few { values.count ≤ 2000001 }
-    requires next_first { IsCell next_values.first }
+    requires next_first { IsCellValue next_values.first }
     requires next_few { next_values.count ≤ 2000001 }
     ensures ahead { result.ahead ≤ values.count }
     ensures behind { result.behind ≤ next_values.count }
@@ -129,7 +130,7 @@ fn taken_at<const UP: bool, H: Hull, F: Fronts<H>, C: Column<H>>(
     t: usize,
     run: H,
 ) -> H
-    requires first { IsCell values.first }
+    requires first { IsCellValue values.first }
     requires few { values.count ≤ 2000001 }
     requires whole { C.whole from before.now }
     requires readable { C.readable from before.now }
@@ -169,7 +170,7 @@ fn put_at<const UP: bool, H: Hull, F: Fronts<H>, C: Column<H>>(
 )
     requires closable { F.closable by run }
     requires whole { C.whole to next.old }
-    requires first { IsCell next_values.first }
+    requires first { IsCellValue next_values.first }
     requires few { next_values.count ≤ 2000001 }
     requires ahead { lead.ahead ≤ 2000001 }
     requires behind { lead.behind ≤ next_values.count }
@@ -205,13 +206,13 @@ pub fn sweep_runs<const UP: bool, H: Hull, F: Fronts<H>, C: Column<H>>(
     to: C,
     next: &mut [C::Item],
 )
-    requires first { IsCell values.first }
+    requires first { IsCellValue values.first }
     requires few { values.count ≤ 2000001 }
     requires whole { C.whole from before.now }
     requires readable { C.readable from before.now }
     requires same { length (C.column from before.now) ≡ values.count }
     requires fit { (i : ℕ) → i < values.count → F.fit by (get_or (C.hulls from before.now) i H.none) }
-    requires next_first { IsCell next_values.first }
+    requires next_first { IsCellValue next_values.first }
     requires next_few { next_values.count ≤ 2000001 }
     requires next_whole { C.whole to next.old }
     requires next_same { length (C.column to next.old) ≡ next_values.count }

@@ -8,13 +8,14 @@ ghost use Rattle.std.specs.Prelude.{◌≡◌, ◌≤◌, ◌<◌, ◌≤ℤ◌,
 ghost use Rattle.std.specs.Int.{int_max, int_min};
 ghost use Rattle.ts_automaton.specs.Body.{Move};
 ghost use Rattle.ts_base.specs.declared.letter.Letter.TheVariants.{Equal, Greater, Less};
+ghost use Rattle.ts_base.specs.Limits.{IsCellValue};
 ghost use Rattle.ts_hull.specs.Sweeps.{compares};
 ghost use Rattle.ts_sweep.specs.Columns.{IsMoved};
 ghost use Rattle.ts_sweep.specs.Lanes.{some_lanes};
 ghost use Rattle.ts_sweep.specs.Packed.{ArePacked, is_wide};
 ghost use Rattle.ts_sweep.specs.PairMoves.{IsBegun, emission, pair_op, reach_by};
 ghost use Rattle.ts_sweep.specs.Sides.{as_read};
-ghost use Rattle.ts_sweep.specs.Small.{IsCell, IsSmall};
+ghost use Rattle.ts_sweep.specs.Small.{IsSmall};
 ghost use Rattle.ts_sweep.specs.Spreads.{
   Falls,
   apart,
@@ -193,7 +194,7 @@ fn with_given<const ABOVE: bool, H: Packed, V: Values>(
 /// How far a next value lies beyond the first value of a run, or below the end of it.
 #[inline(always)]
 fn beyond<const UP: bool>(run: Run, w: i64) -> i64
-    requires first { IsCell run.first }
+    requires first { IsCellValue run.first }
     requires few { run.count ≤ 2000001 }
     requires next { IsSmall w }
     ensures value { result ≡ beyond UP run.first run.count w }

@@ -1,7 +1,8 @@
 //! The values of a cell by place.
 
 ghost use Rattle.std.specs.Prelude.{◌≡◌, IfSome, ℕ, ℤ, pos, ◌<◌, ◌≤◌, ◌<ℤ◌, ◌+ℤ◌};
-ghost use Rattle.ts_sweep.specs.Small.{IsCell, IsSmall};
+ghost use Rattle.ts_base.specs.Limits.{IsCellValue};
+ghost use Rattle.ts_sweep.specs.Small.{IsSmall};
 
 /// Values in rising order.
 pub trait Values: Copy {
@@ -18,7 +19,7 @@ pub trait Values: Copy {
     /// The values as a run, if they have no gap.
     fn run(&self) -> Option<Run>
         requires { ok self.now }
-        ensures { IfSome result (λ r. (r.count ≡ len self.now) × IsCell r.first × (r.count ≤ 2000001)
+        ensures { IfSome result (λ r. (r.count ≡ len self.now) × IsCellValue r.first × (r.count ≤ 2000001)
             × ((i : ℕ) → i < len self.now → (r.first +ℤ pos i) ≡ value self.now i)) };
 
     /// The value at a place.
@@ -50,14 +51,14 @@ impl Values for Run {
     ghost use Rattle.std.specs.Prelude.{◌≤◌, ◌+ℤ◌, pos};
     ghost use Rattle.std.proofs.Common.{arith};
     ghost use Rattle.std.proofs.lemmas.Int.{ints};
-    ghost use Rattle.ts_sweep.specs.Small.{IsCell};
+    ghost use Rattle.ts_base.specs.Limits.{IsCellValue};
     ghost use Rattle.ts_sweep.specs.ValueLaws.{run_small};
 
     ghost len = { λ r. r.count };
 
     ghost value = { λ r i. r.first +ℤ pos i };
 
-    ghost ok = { λ r. IsCell r.first × (r.count ≤ 2000001) };
+    ghost ok = { λ r. IsCellValue r.first × (r.count ≤ 2000001) };
 
     ghost rises = { λ r ok i j lt inside. Prim.omega (arith, ints, lt) };
 
