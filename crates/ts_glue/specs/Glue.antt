@@ -9,10 +9,11 @@ use Rattle.ts_automaton.specs.declared.expr.Atom.TheVariants.{C, E, D, F, R}
 use Rattle.ts_automaton.specs.declared.expr.Operator.{Operator}
 use Rattle.ts_automaton.specs.declared.expr.Operator.TheVariants.{Fold, Sub}
 use Rattle.ts_automaton.specs.Formula.{Formula, Leaf, Join}
-use Rattle.ts_automaton.specs.Registers.{EachOf, Values, value_in, Takes}
+use Rattle.ts_automaton.specs.Registers.{EachOf, each, Values, value_in, Takes}
 use Rattle.ts_automaton.specs.Body.{node_at}
 use Rattle.ts_glue.specs.declared.operand.Part.{Part}
 use Rattle.ts_glue.specs.declared.operand.Part.TheVariants.{Whole, Away}
+use Rattle.ts_glue.specs.declared.operand.Side.{Side}
 use Rattle.ts_glue.specs.declared.table.FoldOp.{FoldOp}
 use Rattle.ts_glue.specs.declared.table.FoldOp.TheVariants.{Add as FoldAdd, Max as FoldMax, Min as FoldMin, Pair as FoldPair}
 use Rattle.ts_glue.specs.declared.table.CellUnit.{CellUnit}
@@ -82,6 +83,10 @@ result_of wide o = Join (Fold o) (Leaf R) (held_of wide)
 -- no occurrence has a sign before the cell and one after it: the answers of both sides
 abbrev pub apart : Bool → Op → Glue
 apart wide g = With (Fold g) (Left (result_of wide g)) (Right (result_of wide g))
+
+-- what contracts see of the registers on one side
+abbrev pub registers_in : {A : Type 0} → Side A → EachOf A
+registers_in s = each s.c s.e s.d s.f s.r
 
 -- the register in which a part of the fold is held, and the one of what may come to it: C and D have the whole of an
 -- occurrence, E and F of a wide automaton what is taken away from it

@@ -1,9 +1,9 @@
 //! What is made of the registers on both sides of a cell.
 
 ghost use Rattle.std.specs.Prelude.{◌≡◌, neg_ℤ, pos};
-ghost use Rattle.ts_automaton.specs.Registers.{Takes, each, value_in};
+ghost use Rattle.ts_automaton.specs.Registers.{Takes, value_in};
 ghost use Rattle.ts_base.specs.Limits.{IsCellValue};
-ghost use Rattle.ts_glue.specs.Glue.{GlueTakes, fold_of, fold_op, folded_between, folded_both, glue_in, held_of, is_pair, result_of};
+ghost use Rattle.ts_glue.specs.Glue.{GlueTakes, fold_of, fold_op, folded_between, folded_both, glue_in, held_of, is_pair, registers_in, result_of};
 ghost use Rattle.ts_glue.specs.Shapes.{expression, part_by};
 
 use crate::operand::{Operand, Part, Side};
@@ -24,12 +24,9 @@ pub(crate) struct Gluing {
 impl Gluing {
     /// The glued value before the mark; each operator in it meets two values that it takes.
     pub(crate) fn glued<V: Operand>(self, left: Side<V>, right: Side<V>) -> V
-        requires fits { GlueTakes V.takes V.values
-            (each left.c left.e left.d left.f left.r) (each right.c right.e right.d right.f right.r) (expression self) }
+        requires fits { GlueTakes V.takes V.values (registers_in left) (registers_in right) (expression self) }
         requires worth { IsCellValue self.worth }
-        ensures { result
-            ≡ glue_in V.values (each left.c left.e left.d left.f left.r)
-            (each right.c right.e right.d right.f right.r) (expression self) }
+        ensures { result ≡ glue_in V.values (registers_in left) (registers_in right) (expression self) }
     {
         let join = Operator::Fold(self.result);
         let (first, second) = match self.shape {
@@ -44,9 +41,9 @@ impl Gluing {
 
     /// The answer of a run, before the mark.
     fn answer<V: Operand>(self, side: Side<V>) -> V
-        requires { Takes V.takes V.values (each side.c side.e side.d side.f side.r) (pos 0) (pos 0)
+        requires { Takes V.takes V.values (registers_in side) (pos 0) (pos 0)
             (result_of (is_pair self.fold) self.result) }
-        ensures { result ≡ value_in V.values (each side.c side.e side.d side.f side.r) (pos 0) (pos 0)
+        ensures { result ≡ value_in V.values (registers_in side) (pos 0) (pos 0)
             (result_of (is_pair self.fold) self.result) }
     {
         V::joined(Operator::Fold(self.result), side.r, self.held(side))
@@ -54,10 +51,8 @@ impl Gluing {
 
     /// What a run has complete or held: where a pair is folded, the greatest less the least.
     fn held<V: Operand>(self, side: Side<V>) -> V
-        requires { Takes V.takes V.values (each side.c side.e side.d side.f side.r) (pos 0) (pos 0)
-            (held_of (is_pair self.fold)) }
-        ensures { result ≡ value_in V.values (each side.c side.e side.d side.f side.r) (pos 0) (pos 0)
-            (held_of (is_pair self.fold)) }
+        requires { Takes V.takes V.values (registers_in side) (pos 0) (pos 0) (held_of (is_pair self.fold)) }
+        ensures { result ≡ value_in V.values (registers_in side) (pos 0) (pos 0) (held_of (is_pair self.fold)) }
     {
         if self.fold.is_pair() {
             V::joined(Operator::Sub, side.c, side.e)
@@ -68,12 +63,10 @@ impl Gluing {
 
     /// The fold of the occurrence that goes on: where a pair is folded, the greatest of its cells less the least.
     fn folded<V: Operand>(self, seam: Seam, left: Side<V>, right: Side<V>) -> V
-        requires fits { GlueTakes V.takes V.values
-            (each left.c left.e left.d left.f left.r) (each right.c right.e right.d right.f right.r)
+        requires fits { GlueTakes V.takes V.values (registers_in left) (registers_in right)
             (fold_of (is_pair self.fold) (fold_op self.fold) (part_by seam self.worth)) }
         requires worth { IsCellValue self.worth }
-        ensures { result ≡ glue_in V.values
-            (each left.c left.e left.d left.f left.r) (each right.c right.e right.d right.f right.r)
+        ensures { result ≡ glue_in V.values (registers_in left) (registers_in right)
             (fold_of (is_pair self.fold) (fold_op self.fold) (part_by seam self.worth)) }
     {
         let o = self.fold.op();
@@ -90,13 +83,10 @@ impl Gluing {
 
     /// A part of it, folded by an operator.
     fn part<V: Operand>(self, seam: Seam, o: Op, part: Part, left: Side<V>, right: Side<V>) -> V
-        requires fits { GlueTakes V.takes V.values
-            (each left.c left.e left.d left.f left.r) (each right.c right.e right.d right.f right.r)
+        requires fits { GlueTakes V.takes V.values (registers_in left) (registers_in right)
             (part_by seam self.worth o part) }
         requires worth { IsCellValue self.worth }
-        ensures { result ≡ glue_in V.values
-            (each left.c left.e left.d left.f left.r) (each right.c right.e right.d right.f right.r)
-            (part_by seam self.worth o part) }
+        ensures { result ≡ glue_in V.values (registers_in left) (registers_in right) (part_by seam self.worth o part) }
     {
         match seam {
             Seam::Between {
@@ -117,11 +107,9 @@ impl Gluing {
         left: Side<V>,
         right: Side<V>,
     ) -> V
-        requires { GlueTakes V.takes V.values
-            (each left.c left.e left.d left.f left.r) (each right.c right.e right.d right.f right.r)
+        requires { GlueTakes V.takes V.values (registers_in left) (registers_in right)
             (folded_between o part held_left held_right self.worth) }
-        ensures { result ≡ glue_in V.values
-            (each left.c left.e left.d left.f left.r) (each right.c right.e right.d right.f right.r)
+        ensures { result ≡ glue_in V.values (registers_in left) (registers_in right)
             (folded_between o part held_left held_right self.worth) }
     {
         let opened = if held_left {
@@ -140,13 +128,10 @@ impl Gluing {
 
     /// What both sides have folded, less the cell where it would count twice.
     fn folded_both<V: Operand>(self, o: Op, part: Part, left: Side<V>, right: Side<V>) -> V
-        requires fits { GlueTakes V.takes V.values
-            (each left.c left.e left.d left.f left.r) (each right.c right.e right.d right.f right.r)
+        requires fits { GlueTakes V.takes V.values (registers_in left) (registers_in right)
             (folded_both o part self.worth) }
         requires worth { IsCellValue self.worth }
-        ensures { result ≡ glue_in V.values
-            (each left.c left.e left.d left.f left.r) (each right.c right.e right.d right.f right.r)
-            (folded_both o part self.worth) }
+        ensures { result ≡ glue_in V.values (registers_in left) (registers_in right) (folded_both o part self.worth) }
     {
         let before = V::joined(Operator::Fold(o), left.held(part), left.open(part));
         let after = V::joined(Operator::Fold(o), right.held(part), right.open(part));

@@ -2,10 +2,10 @@
 
 ghost use Rattle.std.specs.Prelude.{◌≡◌, pos};
 ghost use Rattle.ts_automaton.specs.Kinds.{Fits, SpansFit};
-ghost use Rattle.ts_automaton.specs.Registers.{Values, each, numbers, regs_of, spans, spans_of, value_in};
+ghost use Rattle.ts_automaton.specs.Registers.{Values, numbers, regs_of, spans, spans_of, value_in};
 ghost use Rattle.ts_automaton.specs.declared.expr.Operator.{Operator};
 ghost use Rattle.ts_base.specs.declared.ext.Ext.TheVariants.{Int};
-ghost use Rattle.ts_glue.specs.Glue.{held_in, open_in};
+ghost use Rattle.ts_glue.specs.Glue.{held_in, open_in, registers_in};
 
 use ts_automaton::{Hull, Operator, Regs};
 use ts_base::{Ext, Span};
@@ -75,7 +75,7 @@ pub(crate) struct Side<V> {
 impl Side<Ext> {
     /// The registers of a run.
     pub(crate) fn of_run(regs: Regs) -> Side<Ext>
-        ensures { each result.c result.e result.d result.f result.r ≡ regs_of regs }
+        ensures { registers_in result ≡ regs_of regs }
     {
         Side {
             c: regs.c,
@@ -90,7 +90,7 @@ impl Side<Ext> {
 impl Side<Span> {
     /// The registers of all runs in a hull.
     pub(crate) fn of_hull(hull: Hull) -> Side<Span>
-        ensures { each result.c result.e result.d result.f result.r ≡ spans_of hull }
+        ensures { registers_in result ≡ spans_of hull }
     {
         Side {
             c: hull.c,
@@ -105,7 +105,7 @@ impl Side<Span> {
 impl<V: Operand> Side<V> {
     /// What is held of a part.
     pub(crate) fn held(self, part: Part) -> V
-        ensures { result ≡ value_in V.values (each self.c self.e self.d self.f self.r) (pos 0) (pos 0) (held_in part) }
+        ensures { result ≡ value_in V.values (registers_in self) (pos 0) (pos 0) (held_in part) }
     {
         match part {
             Part::Whole => self.c,
@@ -115,7 +115,7 @@ impl<V: Operand> Side<V> {
 
     /// What may come to it.
     pub(crate) fn open(self, part: Part) -> V
-        ensures { result ≡ value_in V.values (each self.c self.e self.d self.f self.r) (pos 0) (pos 0) (open_in part) }
+        ensures { result ≡ value_in V.values (registers_in self) (pos 0) (pos 0) (open_in part) }
     {
         match part {
             Part::Whole => self.d,

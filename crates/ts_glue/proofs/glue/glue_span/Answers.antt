@@ -2,9 +2,9 @@ use Rattle.std.proofs.Common.{◌≡◌, IfSome, sym, subst, ap, ◌∙◌, w64}
 use Rattle.std.proofs.lemmas.Int.{to_z-of_z}
 use Rattle.std.proofs.lemmas.Bool.{not-false}
 use Rattle.ts_automaton.specs.Kinds.{SpansFit}
-use Rattle.ts_automaton.specs.Registers.{each, spans, spans_of}
+use Rattle.ts_automaton.specs.Registers.{spans, spans_of}
 use Rattle.ts_automaton.specs.SpanRun.{has_registers, hull_standing}
-use Rattle.ts_glue.specs.Glue.{GlueTakes, glue_in, glue_of}
+use Rattle.ts_glue.specs.Glue.{GlueTakes, glue_in, glue_of, registers_in}
 use Rattle.ts_glue.specs.Machines.{forward_of, pair_of}
 use Rattle.ts_glue.specs.Shapes.{expression}
 use Rattle.ts_glue.proofs.Calls.{forward_in_pair, spans_fit, spans_told}
@@ -13,7 +13,7 @@ use Rattle.ts_glue.proofs.glue.glue_span.Goals as goal
 pub glued-span-requires-clause-fits : goal.glued-span-requires-clause-fits
 glued-span-requires-clause-fits c =
     let g = c.gluing-gluing in let u = expression g.result in
-    subst (λ s. GlueTakes SpansFit spans s (each c.of_hull-2.result.c c.of_hull-2.result.e c.of_hull-2.result.d c.of_hull-2.result.f c.of_hull-2.result.r) u)
+    subst (λ s. GlueTakes SpansFit spans s (registers_in c.of_hull-2.result) u)
     (sym c.of_hull.ensures)
     (subst (λ s. GlueTakes SpansFit spans (spans_of c.args.left.hull) s u) (sym c.of_hull-2.ensures)
     (spans_fit c.args.m.now c.requires.split g.ensures.forward_rules g.ensures.reverse_rules u (hull_standing c.args.left) (hull_standing c.args.right)
@@ -33,7 +33,7 @@ returns c =
     (not-false (has_registers (spans_of c.args.right.hull)) (sym c.is_none-else-is_none.ensures ∙ c.if-is_none-2.false))
     (c.mark.ensures ∙ ap (λ b. b.mark) c.forward.ensures)
     (c.glued-span.ensures
-    ∙ ap (λ s. glue_in spans s (each c.of_hull-2.result.c c.of_hull-2.result.e c.of_hull-2.result.d c.of_hull-2.result.f c.of_hull-2.result.r) u)
+    ∙ ap (λ s. glue_in spans s (registers_in c.of_hull-2.result) u)
     c.of_hull.ensures
     ∙ ap (λ s. glue_in spans (spans_of c.args.left.hull) s u) c.of_hull-2.ensures)
     c.applied_to_span.ensures
