@@ -1,4 +1,5 @@
--- Operators of expressions on numbers and on spans: a span holds every result, and single numbers stay single.
+-- Operators of expressions on numbers and on spans: a span holds every result, and single numbers stay single. When two
+-- operators are the same.
 use Rattle.std.proofs.Common.{◌≡◌, ℤ, ◌+ℤ◌, ◌-ℤ◌, neg_ℤ, Bool, true, false, cond, IsTrue, int_le, refl, ◌∙◌, ◌&&◌, ap, arith}
 use Rattle.std.proofs.lemmas.Int.{ints}
 use Rattle.ts_base.specs.declared.ext.Ext.{Ext}
@@ -14,7 +15,19 @@ use Rattle.ts_base.proofs.SpanLaws.{holds_some, one_some, none_empty, lifted_hol
 use Rattle.ts_automaton.specs.declared.expr.Operator.{Operator}
 use Rattle.ts_automaton.specs.declared.expr.Operator.TheVariants.{Fold, Sub}
 use Rattle.ts_automaton.specs.Differences.{difference, difference_span, number_op, span_op}
+use Rattle.ts_automaton.specs.Formula.{is_same_op}
 use Rattle.ts_automaton.specs.Registers.{ext_op}
+
+pub same_op_is : (o p : Op) → is_same_op o p ≡ true → o ≡ p
+same_op_is Add Add h = refl
+same_op_is Add Max h = cc
+same_op_is Add Min h = cc
+same_op_is Max Add h = cc
+same_op_is Max Max h = refl
+same_op_is Max Min h = cc
+same_op_is Min Add h = cc
+same_op_is Min Max h = cc
+same_op_is Min Min h = refl
 
 pub op_mono : (o : Op) (a b c d : Ext) → IsTrue (ext_le a b) → IsTrue (ext_le c d) → IsTrue (ext_le (ext_op o a c) (ext_op o b d))
 op_mono Add = plus_mono

@@ -6,6 +6,7 @@ use Rattle.ts_automaton.specs.declared.expr.Operator.{Operator}
 use Rattle.ts_automaton.specs.declared.expr.Operator.TheVariants.{Fold, Sub}
 use Rattle.ts_base.specs.declared.constant.Constant.{Constant}
 use Rattle.ts_base.specs.declared.constant.Constant.TheVariants.{Zero as ZeroConstant, Unit as UnitConstant, NegInf as LowConstant, PosInf as HighConstant}
+use Rattle.ts_base.specs.declared.op.Op.{Op}
 use Rattle.ts_base.specs.declared.op.Op.TheVariants.{Add as OpAdd, Max as OpMax, Min as OpMin}
 use Rattle.ts_automaton.specs.declared.expr.Expr.{Expr, C, E, D, F, R, This, Next, Zero, Unit as UnitExpr, NegInf, PosInf, Add', Sub', Max', Min'}
 
@@ -43,6 +44,13 @@ formula (Min' p e q f) = Join (Fold OpMin) (formula e) (formula f)
 abbrev pub words_in : Formula → ℕ
 words_in (Leaf a) = 1
 words_in (Join o f g) = 1 + words_in f + words_in g
+
+-- the operators are the same
+abbrev pub is_same_op : Op → Op → Bool
+is_same_op OpAdd OpAdd = true
+is_same_op OpMax OpMax = true
+is_same_op OpMin OpMin = true
+is_same_op o p = false
 
 -- a word that stands in narrow automata too
 abbrev pub is_narrow_atom : Atom → Bool

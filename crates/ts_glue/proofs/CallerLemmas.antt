@@ -1,5 +1,5 @@
--- For crates above: when two operators are the same; what a machine keeps; the glued value where a series is cut into the cells before one, that
--- one, and those after it; the law Local by such cuts.
+-- For crates above: what a machine keeps; the glued value where a series is cut into the cells before one, that one, and those after it; the law
+-- Local by such cuts.
 use Rattle.std.proofs.Common.{◌≡◌, ◌≤◌, ◌<◌, ℕ, zero, suc, ◌+◌, ◌-◌, ℤ, pos, List, [], ◌∷◌, ◌++◌, length, take, drop, reverse, get_or, refl, sym, ◌∙◌, ap, subst, arith}
 use Rattle.std.specs.Prelude.{IsTrue, Option, None, Some, option_map, unwrap_or}
 use Rattle.std.proofs.lemmas.List.{length-append, length-take-le, reverse-append}
@@ -14,7 +14,6 @@ use Rattle.ts_glue.specs.Pairs.{table_view, Pair, pair}
 use Rattle.ts_glue.specs.Glued.{glued_value, left_at, right_at, cell_at, Glued, LocalUpTo}
 use Rattle.ts_glue.specs.Rules.{IsGluing}
 use Rattle.ts_glue.specs.Laws.{MachinesKeepRules}
-pub use Rattle.ts_glue.proofs.Facts.{same_op_is}
 use Rattle.ts_glue.proofs.Locality.{same_up_to_last}
 
 -- what a machine is, and what it keeps

@@ -12,23 +12,13 @@ use Rattle.ts_automaton.specs.declared.expr.Atom.TheVariants.{C, E, D, F, R, Thi
 use Rattle.ts_base.specs.declared.op.Op.{Op}
 use Rattle.ts_automaton.specs.declared.expr.Operator.TheVariants.{Fold, Sub}
 use Rattle.ts_base.specs.declared.op.Op.TheVariants.{Add, Max, Min}
-use Rattle.ts_automaton.specs.Formula.{Formula, Leaf, Join as Joined}
+use Rattle.ts_automaton.specs.Formula.{Formula, Leaf, Join as Joined, is_same_op}
+use Rattle.ts_automaton.proofs.OperatorLaws.{same_op_is}
 use Rattle.ts_glue.specs.Pairs.{Pair}
 use Rattle.ts_automaton.specs.Body.{Body}
 use Rattle.ts_automaton.specs.Typing.{is_number_zero}
 use Rattle.ts_glue.specs.Glue.{held_of, is_join, is_wide, result_of, result_op}
-use Rattle.ts_glue.specs.Rules.{has_trim, has_width, has_widths, is_same_op, is_held, gives_result, has_results, is_neutral, starts_neutral, has_join_states, starts_apart, glue_kind, has_typed_joins, keeps_rules}
-
-pub same_op_is : (o p : Op) → is_same_op o p ≡ true → o ≡ p
-same_op_is Add Add h = refl
-same_op_is Add Max h = cc
-same_op_is Add Min h = cc
-same_op_is Max Add h = cc
-same_op_is Max Max h = refl
-same_op_is Max Min h = cc
-same_op_is Min Add h = cc
-same_op_is Min Max h = cc
-same_op_is Min Min h = refl
+use Rattle.ts_glue.specs.Rules.{has_trim, has_width, has_widths, is_held, gives_result, has_results, is_neutral, starts_neutral, has_join_states, starts_apart, glue_kind, has_typed_joins, keeps_rules}
 
 pub width_is : (wide : Bool) (b : Body) → has_width wide b ≡ true → b.wide ≡ wide
 width_is true b h = h

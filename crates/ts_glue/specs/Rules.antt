@@ -10,7 +10,7 @@ use Rattle.ts_base.specs.declared.op.Op.TheVariants.{Add, Max, Min}
 use Rattle.ts_automaton.specs.declared.expr.Atom.TheVariants.{C, E, R}
 use Rattle.ts_automaton.specs.declared.expr.Operator.TheVariants.{Fold, Sub}
 use Rattle.ts_automaton.specs.declared.kind.RegKind.{RegKind}
-use Rattle.ts_automaton.specs.Formula.{Formula, Leaf, Join as Joined}
+use Rattle.ts_automaton.specs.Formula.{Formula, Leaf, Join as Joined, is_same_op}
 use Rattle.ts_automaton.specs.Registers.{EachOf, map_each}
 use Rattle.ts_automaton.specs.Kinds.{kinds}
 use Rattle.ts_automaton.specs.Body.{Body}
@@ -30,12 +30,6 @@ has_width false b = not b.wide
 
 abbrev pub has_widths : Pair → Bool
 has_widths p = has_width (is_wide p) p.forward && has_width (is_wide p) p.reverse
-
-abbrev pub is_same_op : Op → Op → Bool
-is_same_op Add Add = true
-is_same_op Max Max = true
-is_same_op Min Min = true
-is_same_op o p = false
 
 -- the expression is C, of a wide automaton `sub C E`
 abbrev pub is_held : Bool → Formula → Bool

@@ -18,17 +18,15 @@ use Rattle.ts_automaton.specs.Differences.{difference, span_op}
 use Rattle.ts_base.specs.declared.op.Op.{Op}
 use Rattle.ts_base.specs.declared.op.Op.TheVariants.{Add, Max, Min}
 use Rattle.ts_automaton.specs.declared.regs.Hull.{Hull}
-use Rattle.ts_automaton.specs.Formula.{Formula, Leaf, Join}
+use Rattle.ts_automaton.specs.Formula.{Formula, Leaf, Join, is_same_op}
 use Rattle.ts_automaton.specs.Registers.{EachOf, map_each, ext_op, spans, spans_of, atom_in, value_in}
 use Rattle.ts_automaton.specs.Body.{Move}
 use Rattle.ts_automaton.specs.AutomatonRun.{registers_after}
 use Rattle.ts_automaton.specs.SpanRun.{none_hull}
 use Rattle.ts_automaton.proofs.Five.{five_parts, five_true}
-use Rattle.ts_automaton.proofs.OperatorLaws.{op_mono, negated, difference_is_sum}
+use Rattle.ts_automaton.proofs.OperatorLaws.{op_mono, negated, difference_is_sum, same_op_is}
 use Rattle.ts_hull.specs.Hulls.{hull_of, none, hull_of_both}
 use Rattle.ts_hull.specs.Sealed.{span_from, least_span, by_ends, less_span, sealed_op, sealed_spans, span_in, some_hull, after_move}
-use Rattle.ts_glue.specs.Rules.{is_same_op}
-use Rattle.ts_glue.proofs.CallerLemmas.{same_op_is}
 use Rattle.ts_hull.specs.Splits.{is_next_word, is_front, operands, Split, FrontOf, TailOf, ByPairs, is_double, tail_of, split_formula, is_swept, front_span, closed_span}
 use Rattle.ts_hull.specs.Cuts.{Cut, cut_of, all_swept, front_hull, closed_hull}
 use Rattle.ts_hull.specs.Smalls.{small_int, small, small_span, small_hull}

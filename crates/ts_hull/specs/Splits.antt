@@ -8,9 +8,8 @@ use Rattle.ts_automaton.specs.declared.expr.Atom.TheVariants.{C, E, D, F, R, Thi
 use Rattle.ts_automaton.specs.declared.expr.Operator.TheVariants.{Fold, Sub}
 use Rattle.ts_base.specs.declared.op.Op.{Op}
 use Rattle.ts_automaton.specs.declared.regs.Hull.{Hull}
-use Rattle.ts_automaton.specs.Formula.{Formula, Leaf, Join}
+use Rattle.ts_automaton.specs.Formula.{Formula, Leaf, Join, is_same_op}
 use Rattle.ts_automaton.specs.Registers.{ext_op}
-use Rattle.ts_glue.specs.Rules.{is_same_op}
 use Rattle.ts_hull.specs.Sealed.{by_ends, span_in}
 
 -- the word is the next cell
