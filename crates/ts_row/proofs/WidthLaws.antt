@@ -66,4 +66,4 @@ move_narrow b a q l h u e narrow =
     let each = (and_parts (each_is (is_expression b.wide) u.to) (rests is_zero b.wide u.to) (move_formed b a q l h u e)).0 in
     let p = five_parts (is_expression b.wide u.to.c) (is_expression b.wide u.to.e) (is_expression b.wide u.to.d) (is_expression b.wide u.to.f)
     (is_expression b.wide u.to.r) each in
-    (narrow_expression b.wide u.to.c narrow p.0, narrow_expression b.wide u.to.d narrow p.2, narrow_expression b.wide u.to.r narrow p.4)
+    (narrow_expression b.wide u.to.c narrow p.0, (narrow_expression b.wide u.to.d narrow p.2, (narrow_expression b.wide u.to.r narrow p.4, tt)))

@@ -81,10 +81,10 @@ moved_some s m n xs zs x y c e d f r alone big width suits p some this next ec e
     (subst (λ z. IsPackOf z (value C)) (sym ec) (kept_packs s _ _ (tree m.to.c suits.0)))
     (subst (λ z. IsPackAt (place n E) z (value E)) (sym ee)
     (beside_packs s (is_wide n) 1 m.to.e _ h x y alone (tree m.to.e) (λ w. (zero w).0)))
-    (subst (λ z. IsPackOf z (value D)) (sym ed) (kept_packs s _ _ (tree m.to.d suits.1)))
+    (subst (λ z. IsPackOf z (value D)) (sym ed) (kept_packs s _ _ (tree m.to.d suits.1.0)))
     (subst (λ z. IsPackAt (place n F) z (value F)) (sym ef)
     (beside_packs s (is_wide n) 3 m.to.f _ h x y alone (tree m.to.f) (λ w. (zero w).1)))
-    (subst (λ z. IsPackOf z (value R)) (sym er) (kept_packs s _ _ (tree m.to.r suits.2))) in (
+    (subst (λ z. IsPackOf z (value R)) (sym er) (kept_packs s _ _ (tree m.to.r suits.1.1.0))) in (
       subst (IsPacked n) (sym is) (inr (all_packed n xs kept value big is_some packs)),
       ap unpacked is ∙ all_unpacked n xs kept value big is_some packs
           ∙ ap (seen_hull s) (sym (after_is m h x y true (some_unpacked n xs big is_some))),

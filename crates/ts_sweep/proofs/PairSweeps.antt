@@ -1,6 +1,7 @@
 -- Emissions that add what is found: a letter says which of two cells is the greater, so that they make the same as a move that is swept.
 use Rattle.std.proofs.Common.{◌≡◌, ◌⊎◌, inl, inr, ◌≤ℤ◌, ◌+ℤ◌, ◌-ℤ◌, ℕ, ◌<◌, ◌≤◌, ℤ, pos, neg_ℤ, Bool, true, false, cond, int_le, List, get_or, refl, sym, ap, subst, ◌∙◌, arith}
 use Rattle.std.specs.Int.{int_max, int_min}
+use Rattle.std.specs.List.{AllByRecursion}
 use Rattle.std.proofs.lemmas.Bool.{and_parts}
 use Rattle.std.proofs.lemmas.Int.{ints, clamps}
 use Rattle.ts_base.specs.Numbers.{clamp}
@@ -12,7 +13,7 @@ use Rattle.ts_automaton.specs.declared.expr.Operator.TheVariants.{Fold, Sub}
 use Rattle.ts_automaton.specs.declared.regs.Hull.{Hull}
 use Rattle.ts_automaton.specs.Body.{Move, move_of}
 use Rattle.ts_automaton.specs.Formula.{Formula, Leaf, Join, is_narrow, is_zero}
-use Rattle.ts_automaton.specs.Registers.{EachOf, each, rests}
+use Rattle.ts_automaton.specs.Registers.{EachOf, each, in_order, rests}
 use Rattle.ts_hull.specs.Hulls.{none, hull_of_both}
 use Rattle.ts_hull.specs.Sealed.{after_move}
 use Rattle.ts_hull.specs.Sweeps.{compares, total as hull_total}
@@ -260,7 +261,7 @@ module _ (s : Sides) (n : ℕ) (alone : (s ≡ BothEnds) ⊎ (is_wide n ≡ fals
       (moved_some s m n xs (made_lanes xs x y e) x y (tree_value (Leaf AtomC) zs x y) (beside (is_wide n) (tree_value (Leaf (held_atom wide)) zs x y))
       (tree_value (Leaf (start_atom greatest)) zs x y) (beside (is_wide n) (tree_value (Leaf (open_atom wide)) zs x y)) e alone big
       (ap (λ b. rests is_zero b m.to) width ∙ ap (rests is_zero wide) made ∙ emission_rests wide greatest r)
-      (subst (λ t. IsFor s t.c × IsFor s t.d × IsFor s t.r) (sym made) (narrow_for s (Leaf AtomC) refl, start_for s greatest, suits)) p some sx sy
+      (subst (λ t. AllByRecursion (IsFor s) (in_order false t)) (sym made) (narrow_for s (Leaf AtomC) refl, (start_for s greatest, (suits, tt)))) p some sx sy
       (ap (λ t. kept_ends s (tree_value t.c zs x y)) (sym made)) (ap (λ t. kept_ends s (beside (is_wide n) (tree_value t.e zs x y))) (sym made))
       (ap (λ t. kept_ends s (tree_value t.d zs x y)) (sym made)) (ap (λ t. kept_ends s (beside (is_wide n) (tree_value t.f zs x y))) (sym made))
       (is ∙ ap (λ t. kept_ends s (tree_value t.r zs x y)) (sym made)) refl).1
@@ -311,7 +312,7 @@ module _ {X : Type 0} (s : Sides) (lanes : X → List ℤ) (nothing : X) (n : �
   adds_found wide width = made ∙ ap (λ o. emission (is_wide n) o by.greatest) adds ∙ ap (λ b. emission b Add by.greatest) width
 
   suits_found : (wide : Bool) → is_wide n ≡ wide → IsFor s (found_added wide by.greatest)
-  suits_found wide width = subst (λ t. IsFor s t.r) (adds_found wide width) suits.2
+  suits_found wide width = subst (λ t. IsFor s t.r) (adds_found wide width) suits.1.1.0
 
   -- in narrow hulls the cell that is found is added
   pub cell_taken : is_wide n ≡ false → IsMoved s lanes nothing (record { next = 0; to = emission_with false by.greatest (cell_formula l by.greatest) })

@@ -88,8 +88,8 @@ move_seen s wide m h x y alone suits width = go (some_hull h) refl
     go true e =
         ap (seen_hull s) (after_is m (seen_hull s h) x y true (same_registers s h true e))
         ∙ same_hull (expression_seen s m.to.c h x y suits.0) (beside_seen s wide m.to.e h x y alone (λ w. (zero w).0))
-        (expression_seen s m.to.d h x y suits.1) (beside_seen s wide m.to.f h x y alone (λ w. (zero w).1))
-        (expression_seen s m.to.r h x y suits.2)
+        (expression_seen s m.to.d h x y suits.1.0) (beside_seen s wide m.to.f h x y alone (λ w. (zero w).1))
+        (expression_seen s m.to.r h x y suits.1.1.0)
         ∙ sym (ap (seen_hull s) (after_is m h x y true e))
     go false e =
         ap (seen_hull s) (after_is m (seen_hull s h) x y false (same_registers s h false e))

@@ -141,7 +141,7 @@ made_is m o n xs x y big wide made p begun sx sy = go (some_lanes xs) refl
     go : (b : Bool) → some_lanes xs ≡ b → Made m o n xs x y b
     go true is =
         moved_some BothEnds m n xs _ x y (name_ends xs C) (name_ends xs E) (start_ends true) (start_ends false)
-        (folded_by o (name_ends xs R) (found_ends true true x y)) (inl refl) big (ap (λ b. rests is_zero b m.to) wide) (tt, tt, tt) p is sx sy
+        (folded_by o (name_ends xs R) (found_ends true true x y)) (inl refl) big (ap (λ b. rests is_zero b m.to) wide) (tt, (tt, (tt, tt))) p is sx sy
         (ap (λ t. tree_value t.c xs x y) (sym made))
         (ap (λ b. beside b (name_ends xs E)) (sym wide) ∙ ap (λ t. beside (is_wide n) (tree_value t.e xs x y)) (sym made))
         (ap (λ t. tree_value t.d xs x y) (sym made))

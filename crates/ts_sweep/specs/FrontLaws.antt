@@ -167,7 +167,7 @@ parts_served LowerEnds Sub f g h = cc
 -- narrow moves serve one end alone, others both
 pub move_for : (s : Sides) (wide : Bool) (m : Move) → (s ≡ BothEnds) ⊎ (wide ≡ false) →
     (wide ≡ false → IsNarrowMove m) → IsMoveFor s m
-move_for BothEnds wide m alone narrow = (tt, tt, tt)
+move_for BothEnds wide m alone narrow = (tt, (tt, (tt, tt)))
 move_for UpperEnds wide m (inl e) narrow = cc
 move_for UpperEnds wide m (inr f) narrow = narrow f
 move_for LowerEnds wide m (inl e) narrow = cc

@@ -1,7 +1,8 @@
 -- Registers in fronts.
 use Rattle.std.specs.Prelude.{◌≡◌, ◌≤ℤ◌, ℕ, ℤ, pos, Bool, true, false, nat_eq, if◌then◌else◌, List}
+use Rattle.std.specs.List.{AllByRecursion}
 use Rattle.ts_automaton.specs.Formula.{Formula, is_narrow}
-use Rattle.ts_automaton.specs.Registers.{spans_of}
+use Rattle.ts_automaton.specs.Registers.{in_order, spans_of}
 use Rattle.ts_automaton.specs.declared.expr.Operator.{Operator}
 use Rattle.ts_automaton.specs.declared.expr.Operator.TheVariants.{Fold, Sub}
 use Rattle.ts_automaton.specs.declared.regs.Hull.{Hull}
@@ -57,18 +58,18 @@ IsFor BothEnds f = Unit {0}
 IsFor UpperEnds f = is_narrow f ≡ true
 IsFor LowerEnds f = is_narrow f ≡ true
 
--- of an expression that is split, and of those of a move: E and F of hulls of one end are 0
+-- of an expression that is split, and of those of a move: a hull of one end has the registers of a narrow automaton
 abbrev pub IsSplitFor : Sides → Split → Type 0
 IsSplitFor s (FrontOf e) = IsFor s e
 IsSplitFor s (TailOf o e) = IsFor s e
 IsSplitFor s ByPairs = Unit {0}
 
 abbrev pub IsCutFor : Sides → Cut → Type 0
-IsCutFor s k = IsSplitFor s k.c × IsSplitFor s k.d × IsSplitFor s k.r
+IsCutFor s k = AllByRecursion (IsSplitFor s) (in_order false k)
 
 abbrev pub IsMoveFor : Sides → Move → Type 0
-IsMoveFor s m = IsFor s m.to.c × IsFor s m.to.d × IsFor s m.to.r
+IsMoveFor s m = AllByRecursion (IsFor s) (in_order false m.to)
 
--- the expressions of C, D and R are narrow
+-- the expressions of these registers are narrow
 abbrev pub IsNarrowMove : Move → Type 0
-IsNarrowMove m = (is_narrow m.to.c ≡ true) × (is_narrow m.to.d ≡ true) × (is_narrow m.to.r ≡ true)
+IsNarrowMove m = AllByRecursion (λ f. is_narrow f ≡ true) (in_order false m.to)

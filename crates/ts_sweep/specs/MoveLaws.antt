@@ -518,7 +518,7 @@ module _ {X : Type 0} (s : Sides) (lanes : X → List ℤ) (replaced : X → Nam
               (both_suits s k.e both) f)
           go false w f = refl
       begun_packs xs big some fits D =
-          kept_packs s _ _ (packs D (as_read s xs) (unpacked xs) (read_are s n xs big some) suits.1 (fits D))
+          kept_packs s _ _ (packs D (as_read s xs) (unpacked xs) (read_are s n xs big some) suits.1.0 (fits D))
       begun_packs xs big some fits F = go (is_wide n) refl (fits F)
         where
           go : (b : Bool) → is_wide n ≡ b → IfPlaced (place_in b F) (fit F (as_read s xs)) →
@@ -530,7 +530,7 @@ module _ {X : Type 0} (s : Sides) (lanes : X → List ℤ) (replaced : X → Nam
               (both_suits s k.f both) f)
           go false w f = refl
       begun_packs xs big some fits R =
-          kept_packs s _ _ (packs R (as_read s xs) (unpacked xs) (read_are s n xs big some) suits.2 (fits R))
+          kept_packs s _ _ (packs R (as_read s xs) (unpacked xs) (read_are s n xs big some) suits.1.1.0 (fits R))
 
       pub parts_front_is : (h : X) → 6 ≤ n → IsFitFor s n fit (lanes h) →
           IsFrontOf s (of_width (is_wide n) k) n (lanes h) v

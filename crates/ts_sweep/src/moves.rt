@@ -1,9 +1,10 @@
 //! Moves as sweeps take them in: what becomes of each register, or that all are kept.
 
 ghost use Rattle.std.specs.Prelude.{◌≡◌, ℤ, ◌≤◌, ◌||◌, List, true};
+ghost use Rattle.ts_automaton.specs.Registers.{each};
 ghost use Rattle.ts_sweep.specs.declared.packed.Name.{Name};
 ghost use Rattle.ts_sweep.specs.Covers.{IsBounded, IsHullBounded};
-ghost use Rattle.ts_sweep.specs.Fronts.{IsSplitFor};
+ghost use Rattle.ts_sweep.specs.Fronts.{IsCutFor};
 ghost use Rattle.ts_sweep.specs.Moves.{beside, fits_by};
 ghost use Rattle.ts_sweep.specs.Packed.{IsPacked, ends_in, is_wide, place};
 ghost use Rattle.ts_sweep.specs.Sides.{Sides, as_read};
@@ -66,22 +67,24 @@ pub(crate) fn has_tail<C: Part, E: Part, D: Part, F: Part, R: Part>(
         || parts.r.has_tail()
 }
 
-/// Whether three parts may be evaluated on one end alone.
+/// Whether the parts that narrow hulls have may be evaluated on one end alone.
 #[inline(always)]
-fn are_narrow<C: Part, D: Part, R: Part>(c: C, d: D, r: R) -> bool
+fn are_narrow<C: Part, E: Part, D: Part, F: Part, R: Part>(parts: Parts<C, E, D, F, R>) -> bool
     ensures { result ≡ true → (s : Sides) →
-        IsSplitFor s (C.split c) × IsSplitFor s (D.split d) × IsSplitFor s (R.split r) }
+        IsCutFor s (each (C.split parts.c) (E.split parts.e) (D.split parts.d) (F.split parts.f) (R.split parts.r)) }
 {
-    c.is_narrow() & d.is_narrow() & r.is_narrow()
+    parts.c.is_narrow() & parts.d.is_narrow() & parts.r.is_narrow()
 }
 
-/// Whether three parts may be evaluated on the ends that hulls have.
+/// Whether the parts may be evaluated on the ends that hulls have.
 #[inline(always)]
-fn are_for<H: Packed, C: Part, D: Part, R: Part>(c: C, d: D, r: R) -> bool
-    ensures { result ≡ true →
-        IsSplitFor H.sides (C.split c) × IsSplitFor H.sides (D.split d) × IsSplitFor H.sides (R.split r) }
+fn are_for<H: Packed, C: Part, E: Part, D: Part, F: Part, R: Part>(
+    parts: Parts<C, E, D, F, R>,
+) -> bool
+    ensures { result ≡ true → IsCutFor H.sides
+        (each (C.split parts.c) (E.split parts.e) (D.split parts.d) (F.split parts.f) (R.split parts.r)) }
 {
-    H::has_both() || are_narrow(c, d, r)
+    H::has_both() || are_narrow(parts)
 }
 
 /// Whether all parts may be evaluated and closed on all lanes that a cover bounds.
@@ -324,6 +327,6 @@ impl<H: Packed, C: Part, E: Part, D: Part, F: Part, R: Part> Moves<H> for Parts<
 
     #[inline(always)]
     fn is_fit(self, cover: &Cover) -> bool {
-        are_for::<H, C, D, R>(self.c, self.d, self.r) && are_fit(self, cover)
+        are_for::<H, C, E, D, F, R>(self) && are_fit(self, cover)
     }
 }
