@@ -2,7 +2,7 @@
 use Rattle.std.proofs.Common.{◌≡◌, ℕ, Bool, true, false, List, refl, sym, ap, subst, ◌∙◌}
 use Rattle.ts_base.specs.declared.letter.Letter.{Letter}
 use Rattle.ts_base.specs.declared.letter.Letter.TheVariants.{Less, Greater}
-use Rattle.ts_base.specs.declared.op.Op.TheVariants.{Add}
+use Rattle.ts_base.specs.declared.op.Op.TheVariants.{Add, Max}
 use Rattle.ts_automaton.specs.declared.expr.Atom.TheVariants.{R, This}
 use Rattle.ts_automaton.specs.declared.expr.Operator.TheVariants.{Fold, Sub}
 use Rattle.ts_automaton.specs.Body.{move_of}
@@ -18,7 +18,7 @@ use Rattle.ts_sweep.specs.declared.packed.PackedHull.{PackedHull}
 use Rattle.ts_sweep.specs.declared.pair_move.Emission.{Emission}
 use Rattle.ts_sweep.specs.Fronts.{IsMoveFor}
 use Rattle.ts_sweep.specs.Moves.{of_width}
-use Rattle.ts_sweep.specs.PairMoves.{emission, start_atom}
+use Rattle.ts_sweep.specs.PairMoves.{emission, pair_op, start_atom}
 use Rattle.ts_sweep.specs.Sides.{has_wide, lane_count, sides}
 use Rattle.ts_sweep.specs.SidesLaws.{alone}
 use Rattle.ts_sweep.proofs.PairSweeps.{cell_formula, cell_taken, emission_with, fall_added, fall_taken, rise_added, rise_taken}
@@ -30,54 +30,55 @@ emitted_swept false d r h = h
 
 -- and is split so
 emitted_split : (wide greatest : Bool) (r : Formula) →
-    cut_of (record { next = 0; to = emission_with wide greatest r }) ≡ of_width wide (emitted_cut (Leaf (start_atom greatest)) (split_formula r))
+    cut_of (record { next = 0; to = emission_with wide greatest r }) ≡ of_width wide (emitted_cut (Leaf (start_atom (pair_op greatest))) (split_formula r))
 emitted_split true true r = refl
 emitted_split true false r = refl
 emitted_split false true r = refl
 emitted_split false false r = refl
 
-module _ (n : ℕ) (t : Between n) (on : On) (by : Emission) (old new : List (PackedHull n)) (adds : by.ranges ≡ Add)
-    (made : (move_of by.turn.now).to ≡ emission (has_wide n) by.ranges by.greatest) (suits : IsMoveFor (sides n) (move_of by.turn.now))
+module _ (n : ℕ) (t : Between n) (on : On) (by : Emission) (greatest : Bool) (cells : by.cells ≡ pair_op greatest) (old new : List (PackedHull n))
+    (adds : by.ranges ≡ Add)
+    (made : (move_of by.turn.now).to ≡ emission (has_wide n) by.ranges by.cells) (suits : IsMoveFor (sides n) (move_of by.turn.now))
     (covered : IsCovered n t) (fit : AreEmitted n by (count_in t.values.now) t.before.now) where
   pub cell_moved : has_wide n ≡ false →
-      MovesAs n t on (emitted_cut (Leaf (start_atom by.greatest)) (split_formula (cell_formula on.letter by.greatest))) old new →
+      MovesAs n t on (emitted_cut (Leaf (start_atom (pair_op greatest))) (split_formula (cell_formula on.letter greatest))) old new →
       HasMoved n t on (move_of by.turn.now) old new
   cell_moved narrow moves =
       let v = t.values.now in
       let w = t.next_values.now in
-      let r = cell_formula on.letter by.greatest in
-      cell_taken (sides n) (lanes_of n) (nothing n) (lane_count n) (alone n) t.registers by adds made suits on.letter on.twin (count_in v) (value_in v)
-      t.before.now covered.packed v.small fit (count_in w) (value_in w) w.small old new narrow
-      (moves (record { next = 0; to = emission_with false by.greatest r })
-      (emitted_split false by.greatest r ∙ ap (λ b. of_width b (emitted_cut (Leaf (start_atom by.greatest)) (split_formula r))) (sym narrow)))
+      let r = cell_formula on.letter greatest in
+      cell_taken (sides n) (lanes_of n) (nothing n) (lane_count n) (alone n) t.registers by greatest cells adds made suits on.letter on.twin (count_in v)
+      (value_in v) t.before.now covered.packed v.small fit (count_in w) (value_in w) w.small old new narrow
+      (moves (record { next = 0; to = emission_with false greatest r })
+      (emitted_split false greatest r ∙ ap (λ b. of_width b (emitted_cut (Leaf (start_atom (pair_op greatest))) (split_formula r))) (sym narrow)))
 
-  pub rise_moved : has_wide n ≡ true → by.greatest ≡ true → on.letter ≡ Less →
-      MovesAs n t on (emitted_cut (Leaf (start_atom true)) (TailOf Add (Join Sub (Leaf R) (Leaf This)))) old new →
+  pub rise_moved : has_wide n ≡ true → greatest ≡ true → on.letter ≡ Less →
+      MovesAs n t on (emitted_cut (Leaf (start_atom Max)) (TailOf Add (Join Sub (Leaf R) (Leaf This)))) old new →
       HasMoved n t on (move_of by.turn.now) old new
   rise_moved wide one less moves =
       let v = t.values.now in
       let w = t.next_values.now in
-      let cut : Bool → Bool → Cut = λ b g. of_width b (emitted_cut (Leaf (start_atom g)) (split_formula rise_added)) in
-      rise_taken (sides n) (lanes_of n) (nothing n) (lane_count n) (alone n) t.registers by adds made suits on.letter on.twin (count_in v) (value_in v)
-      t.before.now covered.packed v.small fit (count_in w) (value_in w) w.small old new wide one less
-      (moves (record { next = 0; to = emission_with true by.greatest rise_added })
-      (emitted_split true by.greatest rise_added ∙ ap (cut true) one ∙ ap (λ b. cut b true) (sym wide)))
+      let cut : Bool → Bool → Cut = λ b g. of_width b (emitted_cut (Leaf (start_atom (pair_op g))) (split_formula rise_added)) in
+      rise_taken (sides n) (lanes_of n) (nothing n) (lane_count n) (alone n) t.registers by greatest cells adds made suits on.letter on.twin (count_in v)
+      (value_in v) t.before.now covered.packed v.small fit (count_in w) (value_in w) w.small old new wide one less
+      (moves (record { next = 0; to = emission_with true greatest rise_added })
+      (emitted_split true greatest rise_added ∙ ap (cut true) one ∙ ap (λ b. cut b true) (sym wide)))
 
-  pub fall_moved : has_wide n ≡ true → by.greatest ≡ true → on.letter ≡ Greater →
-      TurnsAs n t on (emitted_cut (Leaf (start_atom true)) (TailOf Add (Join (Fold Add) (Leaf R) (Leaf This)))) old new →
+  pub fall_moved : has_wide n ≡ true → greatest ≡ true → on.letter ≡ Greater →
+      TurnsAs n t on (emitted_cut (Leaf (start_atom Max)) (TailOf Add (Join (Fold Add) (Leaf R) (Leaf This)))) old new →
       HasMoved n t on (move_of by.turn.now) old new
   fall_moved wide one greater moves =
       let v = t.values.now in
       let w = t.next_values.now in
-      fall_taken (sides n) (lanes_of n) (nothing n) (lane_count n) (alone n) t.registers by adds made suits on.letter on.twin (count_in v) (value_in v)
-      t.before.now covered.packed v.small fit (count_in w) (value_in w) w.small old new wide one greater
+      fall_taken (sides n) (lanes_of n) (nothing n) (lane_count n) (alone n) t.registers by greatest cells adds made suits on.letter on.twin (count_in v)
+      (value_in v) t.before.now covered.packed v.small fit (count_in w) (value_in w) w.small old new wide one greater
       (moves (record { next = 0; to = emission_with true true fall_added })
-      (emitted_split true true fall_added ∙ ap (λ b. of_width b (emitted_cut (Leaf (start_atom true)) (split_formula fall_added))) (sym wide)))
+      (emitted_split true true fall_added ∙ ap (λ b. of_width b (emitted_cut (Leaf (start_atom Max)) (split_formula fall_added))) (sym wide)))
 
 -- a sweep for a letter and for the greatest or the least
 pub known_cell : (n : ℕ) (t : Between n) (on : On) (l : Letter) (greatest g : Bool) (old new : List (PackedHull n)) → on.letter ≡ l → greatest ≡ g →
-    MovesAs n t on (emitted_cut (Leaf (start_atom g)) (split_formula (cell_formula l g))) old new →
-    MovesAs n t on (emitted_cut (Leaf (start_atom greatest)) (split_formula (cell_formula on.letter greatest))) old new
+    MovesAs n t on (emitted_cut (Leaf (start_atom (pair_op g))) (split_formula (cell_formula l g))) old new →
+    MovesAs n t on (emitted_cut (Leaf (start_atom (pair_op greatest))) (split_formula (cell_formula on.letter greatest))) old new
 known_cell n t on l greatest g old new letter same moves =
-    subst (λ z. MovesAs n t on (emitted_cut (Leaf (start_atom greatest)) (split_formula (cell_formula z greatest))) old new) (sym letter)
-    (subst (λ z. MovesAs n t on (emitted_cut (Leaf (start_atom z)) (split_formula (cell_formula l z))) old new) (sym same) moves)
+    subst (λ z. MovesAs n t on (emitted_cut (Leaf (start_atom (pair_op greatest))) (split_formula (cell_formula z greatest))) old new) (sym letter)
+    (subst (λ z. MovesAs n t on (emitted_cut (Leaf (start_atom (pair_op z))) (split_formula (cell_formula l z))) old new) (sym same) moves)

@@ -6,7 +6,7 @@ ghost use Rattle.ts_automaton.specs.Registers.{rests};
 ghost use Rattle.ts_automaton.specs.declared.expr.Atom.TheVariants.{C, Next, R, This};
 ghost use Rattle.ts_automaton.specs.declared.expr.Operator.TheVariants.{Fold};
 ghost use Rattle.ts_automaton.specs.Formula.{Join, Leaf, formula, is_zero};
-ghost use Rattle.ts_base.specs.declared.op.Op.TheVariants.{Add};
+ghost use Rattle.ts_base.specs.declared.op.Op.TheVariants.{Add, Max};
 ghost use Rattle.ts_row.specs.Rows.{IsColumn, lanes_of, nothing};
 ghost use Rattle.ts_row.specs.Takings.{AreEmitted, HasMoved, IsCovered, count_in};
 ghost use Rattle.ts_sweep.specs.declared.packed.Name.TheVariants.{R as NameR};
@@ -52,89 +52,97 @@ fn is_word(e: &Expr, word: Atom) -> bool
     }
 }
 
-/// Whether two expressions are a register, joined with the cell by an operator, and the next cell.
-fn is_pair_of(a: &Expr, b: &Expr, greatest: bool, register: Atom) -> bool
-    ensures { result ≡ true → (formula a.now ≡ Join (Fold (pair_op greatest)) (Leaf register) (Leaf This))
-        × (formula b.now ≡ Leaf Next) }
+/// Whether an expression joins a register with the cell by an operator.
+fn is_with_cell(e: &Expr, cells: Op, register: Atom) -> bool
+    ensures { result ≡ true → formula e.now ≡ Join (Fold cells) (Leaf register) (Leaf This) }
 {
-    match a {
-        Expr::Max(c, d) => greatest
-            && is_word(c, register)
-            && is_word(d, Atom::This)
-            && is_word(b, Atom::Next),
-        Expr::Min(c, d) => !greatest
-            && is_word(c, register)
-            && is_word(d, Atom::This)
-            && is_word(b, Atom::Next),
+    match (cells, e) {
+        (Op::Add, Expr::Add(a, b)) | (Op::Max, Expr::Max(a, b)) | (Op::Min, Expr::Min(a, b)) => {
+            is_word(a, register) && is_word(b, Atom::This)
+        }
         _ => false,
     }
 }
 
-/// Whether an expression joins a register with the cell and the next one.
-fn is_pair(e: &Expr, greatest: bool, register: Atom) -> bool
-    ensures { result ≡ true → formula e.now ≡ pair_cells (pair_op greatest) register }
+/// Whether an expression joins a register with the cell and the next one by an operator.
+fn is_pair(e: &Expr, cells: Op, register: Atom) -> bool
+    ensures { result ≡ true → formula e.now ≡ pair_cells cells register }
 {
-    match e {
-        Expr::Max(a, b) => greatest && is_pair_of(a, b, true, register),
-        Expr::Min(a, b) => !greatest && is_pair_of(a, b, false, register),
+    match (cells, e) {
+        (Op::Add, Expr::Add(a, b)) | (Op::Max, Expr::Max(a, b)) | (Op::Min, Expr::Min(a, b)) => {
+            is_with_cell(a, cells, register) && is_word(b, Atom::Next)
+        }
         _ => false,
     }
 }
 
 /// Whether an expression is what D, the cell and the next one give.
-fn is_pair_found(e: &Expr, wide: bool, greatest: bool) -> bool
-    ensures value { result ≡ true → formula e.now ≡ pair_found wide greatest }
-    ensures greatest { result ≡ true → wide ≡ true → greatest ≡ true }
+fn is_pair_found(e: &Expr, wide: bool, cells: Op) -> bool
+    ensures value { result ≡ true → formula e.now ≡ pair_found wide cells }
+    ensures greatest { result ≡ true → wide ≡ true → cells ≡ Max }
 {
-    match e {
-        Expr::Sub(a, b) => wide
-            && greatest
-            && is_pair(a, true, Atom::D)
-            && is_pair(b, false, Atom::F),
-        _ => !wide && is_pair(e, greatest, Atom::D),
+    match (e, cells) {
+        (Expr::Sub(a, b), Op::Max) => wide
+            && is_pair(a, Op::Max, Atom::D)
+            && is_pair(b, Op::Min, Atom::F),
+        _ => !wide && is_pair(e, cells, Atom::D),
     }
 }
 
 /// Whether two expressions are R, and what D, the cell and the next one give.
-fn is_taken(a: &Expr, b: &Expr, wide: bool, greatest: bool) -> bool
-    ensures value { result ≡ true → (formula a.now ≡ Leaf R) × (formula b.now ≡ pair_found wide greatest) }
-    ensures greatest { result ≡ true → wide ≡ true → greatest ≡ true }
+fn is_taken(a: &Expr, b: &Expr, wide: bool, cells: Op) -> bool
+    ensures value { result ≡ true → (formula a.now ≡ Leaf R) × (formula b.now ≡ pair_found wide cells) }
+    ensures greatest { result ≡ true → wide ≡ true → cells ≡ Max }
 {
-    is_word(a, Atom::R) && is_pair_found(b, wide, greatest)
+    is_word(a, Atom::R) && is_pair_found(b, wide, cells)
 }
 
 /// The operator by which an expression joins R with what D, the cell and the next one give.
-fn ranges_of(e: &Expr, wide: bool, greatest: bool) -> Option<Op>
-    ensures { IfSome result (λ o. (formula e.now ≡ Join (Fold o) (Leaf R) (pair_found wide greatest))
-        × (wide ≡ true → greatest ≡ true)) }
+fn ranges_of(e: &Expr, wide: bool, cells: Op) -> Option<Op>
+    ensures { IfSome result (λ o. (formula e.now ≡ Join (Fold o) (Leaf R) (pair_found wide cells))
+        × (wide ≡ true → cells ≡ Max)) }
 {
     match e {
-        Expr::Add(a, b) if is_taken(a, b, wide, greatest) => Some(Op::Add),
-        Expr::Max(a, b) if is_taken(a, b, wide, greatest) => Some(Op::Max),
-        Expr::Min(a, b) if is_taken(a, b, wide, greatest) => Some(Op::Min),
+        Expr::Add(a, b) if is_taken(a, b, wide, cells) => Some(Op::Add),
+        Expr::Max(a, b) if is_taken(a, b, wide, cells) => Some(Op::Max),
+        Expr::Min(a, b) if is_taken(a, b, wide, cells) => Some(Op::Min),
         _ => None,
     }
 }
 
 /// Whether the expressions of a move but that of R are those of an emission.
-fn is_reset(t: &Turn, wide: bool, greatest: bool) -> bool
+fn is_reset(t: &Turn, wide: bool, cells: Op) -> bool
     ensures { result ≡ true → (formula t.now.c ≡ Leaf C) × (formula t.now.e ≡ Leaf (held_atom wide))
-        × (formula t.now.d ≡ Leaf (start_atom greatest)) × (formula t.now.f ≡ Leaf (open_atom wide)) }
+        × (formula t.now.d ≡ Leaf (start_atom cells)) × (formula t.now.f ≡ Leaf (open_atom wide)) }
 {
-    let start = if greatest { Atom::NegInf } else { Atom::PosInf };
+    let start = match cells {
+        Op::Add => Atom::Zero,
+        Op::Max => Atom::NegInf,
+        Op::Min => Atom::PosInf,
+    };
     let held = if wide { Atom::E } else { Atom::Zero };
     let open = if wide { Atom::PosInf } else { Atom::Zero };
     is_word(&t.c, Atom::C) && is_word(&t.e, held) && is_word(&t.d, start) && is_word(&t.f, open)
 }
 
-/// The emission that a move is, if it is one: the operator of its ranges, and whether the greatest cell is taken.
-fn emission_of(t: &Turn, wide: bool) -> Option<(Op, bool)>
-    ensures { IfSome result (λ p. ((move_of t.now).to ≡ emission wide p.0 p.1) × (wide ≡ true → p.1 ≡ true)) }
+/// The operator by which a move takes in cells where it makes this of D.
+fn cells_of(d: &Expr) -> Option<Op> {
+    match d {
+        Expr::Zero => Some(Op::Add),
+        Expr::NegInf => Some(Op::Max),
+        Expr::PosInf => Some(Op::Min),
+        _ => None,
+    }
+}
+
+/// The emission that a move is, if it is one: the operators of its ranges and of its cells.
+fn emission_of(t: &Turn, wide: bool) -> Option<(Op, Op)>
+    ensures { IfSome result (λ p. ((move_of t.now).to ≡ emission wide p.0 p.1) × (wide ≡ true → p.1 ≡ Max)) }
 {
-    let greatest = is_word(&t.d, Atom::NegInf);
-    let o = ranges_of(&t.r, wide, greatest)?;
-    if is_reset(t, wide, greatest) {
-        Some((o, greatest))
+    let cells = cells_of(&t.d)?;
+    let o = ranges_of(&t.r, wide, cells)?;
+    if is_reset(t, wide, cells) {
+        Some((o, cells))
     } else {
         None
     }
@@ -198,19 +206,19 @@ fn emit_as<const N: usize>(by: Emission<'_>, on: On, t: &Between<'_, N>, next: &
 
 /// An emission whose operators are those given.
 #[inline(always)]
-fn with_operators<'a>(by: Emission<'a>, ranges: Op, greatest: bool) -> Emission<'a>
+fn with_operators<'a>(by: Emission<'a>, ranges: Op, cells: Op) -> Emission<'a>
     requires ranges { by.ranges ≡ ranges }
-    requires greatest { by.greatest ≡ greatest }
+    requires cells { by.cells ≡ cells }
     ensures { result ≡ by.entry }
 {
     Emission {
         turn: by.turn,
         ranges,
-        greatest,
+        cells,
     }
 }
 
-/// Takes in an emission: a loop for each operator, with the greatest cells or the least.
+/// Takes in an emission: a loop for each operator of ranges and of cells.
 fn emit<const N: usize>(by: Emission<'_>, on: On, t: &Between<'_, N>, next: &mut [PackedHull<N>])
     requires covered { IsCovered N t.now }
     requires width { rests is_zero (has_wide N) (move_of by.turn.now).to ≡ true }
@@ -220,13 +228,16 @@ fn emit<const N: usize>(by: Emission<'_>, on: On, t: &Between<'_, N>, next: &mut
     ensures packed { IsColumn N (count_in t.now.next_values.now) next.new }
     ensures moved { HasMoved N t.now on (move_of by.entry.turn.now) next.old next.new }
 {
-    match (by.ranges, by.greatest) {
-        (Op::Add, true) => emit_as(with_operators(by, Op::Add, true), on, t, next),
-        (Op::Max, true) => emit_as(with_operators(by, Op::Max, true), on, t, next),
-        (Op::Min, true) => emit_as(with_operators(by, Op::Min, true), on, t, next),
-        (Op::Add, false) => emit_as(with_operators(by, Op::Add, false), on, t, next),
-        (Op::Max, false) => emit_as(with_operators(by, Op::Max, false), on, t, next),
-        (Op::Min, false) => emit_as(with_operators(by, Op::Min, false), on, t, next),
+    match (by.ranges, by.cells) {
+        (Op::Add, Op::Add) => emit_as(with_operators(by, Op::Add, Op::Add), on, t, next),
+        (Op::Max, Op::Add) => emit_as(with_operators(by, Op::Max, Op::Add), on, t, next),
+        (Op::Min, Op::Add) => emit_as(with_operators(by, Op::Min, Op::Add), on, t, next),
+        (Op::Add, Op::Max) => emit_as(with_operators(by, Op::Add, Op::Max), on, t, next),
+        (Op::Max, Op::Max) => emit_as(with_operators(by, Op::Max, Op::Max), on, t, next),
+        (Op::Min, Op::Max) => emit_as(with_operators(by, Op::Min, Op::Max), on, t, next),
+        (Op::Add, Op::Min) => emit_as(with_operators(by, Op::Add, Op::Min), on, t, next),
+        (Op::Max, Op::Min) => emit_as(with_operators(by, Op::Max, Op::Min), on, t, next),
+        (Op::Min, Op::Min) => emit_as(with_operators(by, Op::Min, Op::Min), on, t, next),
     }
 }
 
@@ -240,8 +251,8 @@ fn take_found<const N: usize>(
     requires covered { IsCovered N t.now }
     requires width { rests is_zero (has_wide N) (move_of by.turn.now).to ≡ true }
     requires suits { IsMoveFor (sides N) (move_of by.turn.now) }
-    requires made { (move_of by.turn.now).to ≡ emission (has_wide N) by.ranges by.greatest }
-    requires one { has_wide N ≡ true → by.greatest ≡ true }
+    requires made { (move_of by.turn.now).to ≡ emission (has_wide N) by.ranges by.cells }
+    requires one { has_wide N ≡ true → by.cells ≡ Max }
     requires fit { AreEmitted N by (count_in t.now.values.now) t.now.before.now }
     requires next_packed { IsColumn N (count_in t.now.next_values.now) next.old }
     ensures packed { IsColumn N (count_in t.now.next_values.now) next.new }
@@ -275,10 +286,10 @@ fn spread<const N: usize>(greatest: bool, on: On, t: &Between<'_, N>, next: &mut
     requires wide { has_wide N ≡ true }
     requires begun { (i : ℕ) → i < count_in t.now.values.now →
         some_lanes (lanes_of N (get_or t.now.before.now i (nothing N))) ≡ true →
-        IsBegun (sides N) true true (as_read (sides N) (lanes_of N (get_or t.now.before.now i (nothing N)))) }
+        IsBegun (sides N) true Max (as_read (sides N) (lanes_of N (get_or t.now.before.now i (nothing N)))) }
     requires next_packed { IsColumn N (count_in t.now.next_values.now) next.old }
     ensures packed { IsColumn N (count_in t.now.next_values.now) next.new }
-    ensures moved { (m : Move) → m.to ≡ emission true (pair_op greatest) true →
+    ensures moved { (m : Move) → m.to ≡ emission true (pair_op greatest) Max →
         HasMoved N t.now on m next.old next.new }
 {
     take_spread::<PackedHull<N>, &Cell<'_>, &Cell<'_>>(
@@ -302,8 +313,8 @@ fn take_begun<const N: usize>(
     requires covered { IsCovered N t.now }
     requires width { rests is_zero (has_wide N) (move_of by.turn.now).to ≡ true }
     requires suits { IsMoveFor (sides N) (move_of by.turn.now) }
-    requires made { (move_of by.turn.now).to ≡ emission (has_wide N) by.ranges by.greatest }
-    requires one { has_wide N ≡ true → by.greatest ≡ true }
+    requires made { (move_of by.turn.now).to ≡ emission (has_wide N) by.ranges by.cells }
+    requires one { has_wide N ≡ true → by.cells ≡ Max }
     requires fit { AreEmitted N by (count_in t.now.values.now) t.now.before.now }
     requires next_packed { IsColumn N (count_in t.now.next_values.now) next.old }
     ensures packed { IsColumn N (count_in t.now.next_values.now) next.new }
@@ -331,13 +342,13 @@ fn take_emission<const N: usize>(
     ensures kept { result ≡ false → next.new ≡ next.old }
 {
     match emission_of(turn, PackedHull::<N>::is_wide()) {
-        Some((ranges, greatest)) => {
-            if is_plain(ranges, t.cover) && are_begun::<PackedHull<N>>(t.before, greatest) {
+        Some((ranges, cells)) => {
+            if is_plain(ranges, t.cover) && are_begun::<PackedHull<N>>(t.before, cells) {
                 take_begun(
                     Emission {
                         turn,
                         ranges,
-                        greatest,
+                        cells,
                     },
                     on,
                     t,

@@ -5,13 +5,13 @@ ghost use Rattle.ts_automaton.specs.Body.{move_of};
 ghost use Rattle.ts_automaton.specs.Formula.{Join as Joined, Leaf};
 ghost use Rattle.ts_automaton.specs.declared.expr.Atom.TheVariants.{R, This as ThisWord};
 ghost use Rattle.ts_automaton.specs.declared.expr.Operator.TheVariants.{Fold, Sub};
-ghost use Rattle.ts_base.specs.declared.op.Op.TheVariants.{Add};
+ghost use Rattle.ts_base.specs.declared.op.Op.TheVariants.{Add, Max};
 ghost use Rattle.ts_hull.specs.Splits.{TailOf, is_swept, split_formula};
 ghost use Rattle.ts_row.specs.Plans.{emitted_cut};
 ghost use Rattle.ts_row.specs.Rows.{IsColumn};
 ghost use Rattle.ts_row.specs.Takings.{AreEmitted, HasMoved, IsCovered, MovesAs, TurnsAs, count_in};
 ghost use Rattle.ts_sweep.specs.Fronts.{IsMoveFor};
-ghost use Rattle.ts_sweep.specs.PairMoves.{emission, found_atom, start_atom};
+ghost use Rattle.ts_sweep.specs.PairMoves.{emission, found_atom, pair_op, start_atom};
 ghost use Rattle.ts_sweep.specs.Sides.{has_wide, sides};
 
 use crate::between::{Between, On};
@@ -69,7 +69,7 @@ fn add_cell<const N: usize>(
     requires covered { IsCovered N t.now }
     requires next_packed { IsColumn N (count_in t.now.next_values.now) next.old }
     ensures packed { IsColumn N (count_in t.now.next_values.now) next.new }
-    ensures taken { result ≡ true → MovesAs N t.now on (emitted_cut (Leaf (start_atom greatest))
+    ensures taken { result ≡ true → MovesAs N t.now on (emitted_cut (Leaf (start_atom (pair_op greatest)))
         (split_formula (Joined (Fold Add) (Leaf R) (Leaf (found_atom on.letter greatest))))) next.old next.new }
     ensures kept { result ≡ false → next.new ≡ next.old }
 {
@@ -99,7 +99,7 @@ fn add_rise<const N: usize>(on: On, t: &Between<'_, N>, next: &mut [PackedHull<N
     requires next_packed { IsColumn N (count_in t.now.next_values.now) next.old }
     ensures packed { IsColumn N (count_in t.now.next_values.now) next.new }
     ensures taken { result ≡ true → MovesAs N t.now on
-        (emitted_cut (Leaf (start_atom true)) (TailOf Add (Joined Sub (Leaf R) (Leaf ThisWord)))) next.old next.new }
+        (emitted_cut (Leaf (start_atom Max)) (TailOf Add (Joined Sub (Leaf R) (Leaf ThisWord)))) next.old next.new }
     ensures kept { result ≡ false → next.new ≡ next.old }
 {
     let less = Join {
@@ -119,7 +119,7 @@ fn add_fall<const N: usize>(on: On, t: &Between<'_, N>, next: &mut [PackedHull<N
     requires covered { IsCovered N t.now }
     requires next_packed { IsColumn N (count_in t.now.next_values.now) next.old }
     ensures packed { IsColumn N (count_in t.now.next_values.now) next.new }
-    ensures taken { result ≡ true → TurnsAs N t.now on (emitted_cut (Leaf (start_atom true))
+    ensures taken { result ≡ true → TurnsAs N t.now on (emitted_cut (Leaf (start_atom Max))
         (TailOf Add (Joined (Fold Add) (Leaf R) (Leaf ThisWord)))) next.old next.new }
     ensures kept { result ≡ false → next.new ≡ next.old }
 {
@@ -166,8 +166,8 @@ fn add_difference<const N: usize>(
     requires adds { by.ranges ≡ Add }
     requires covered { IsCovered N t.now }
     requires suits { IsMoveFor (sides N) (move_of by.turn.now) }
-    requires made { (move_of by.turn.now).to ≡ emission (has_wide N) by.ranges by.greatest }
-    requires one { by.greatest ≡ true }
+    requires made { (move_of by.turn.now).to ≡ emission (has_wide N) by.ranges by.cells }
+    requires one { by.cells ≡ Max }
     requires fit { AreEmitted N by (count_in t.now.values.now) t.now.before.now }
     requires next_packed { IsColumn N (count_in t.now.next_values.now) next.old }
     ensures packed { IsColumn N (count_in t.now.next_values.now) next.new }
@@ -182,7 +182,8 @@ fn add_difference<const N: usize>(
     }
 }
 
-/// Takes in an emission by a sweep, if it adds what is found to `R` and a letter says which cell is the greater.
+/// Takes in an emission by a sweep, if it adds the greater or the lesser cell to `R`, or their difference, and a letter
+/// says which cell is the greater.
 pub(crate) fn sweep_sums<const N: usize>(
     by: Emission<'_>,
     on: On,
@@ -191,17 +192,18 @@ pub(crate) fn sweep_sums<const N: usize>(
 ) -> bool
     requires covered { IsCovered N t.now }
     requires suits { IsMoveFor (sides N) (move_of by.turn.now) }
-    requires made { (move_of by.turn.now).to ≡ emission (has_wide N) by.ranges by.greatest }
-    requires one { has_wide N ≡ true → by.greatest ≡ true }
+    requires made { (move_of by.turn.now).to ≡ emission (has_wide N) by.ranges by.cells }
+    requires one { has_wide N ≡ true → by.cells ≡ Max }
     requires fit { AreEmitted N by (count_in t.now.values.now) t.now.before.now }
     requires next_packed { IsColumn N (count_in t.now.next_values.now) next.old }
     ensures packed { IsColumn N (count_in t.now.next_values.now) next.new }
     ensures moved { result ≡ true → HasMoved N t.now on (move_of by.entry.turn.now) next.old next.new }
     ensures kept { result ≡ false → next.new ≡ next.old }
 {
-    match (by.ranges, PackedHull::<N>::is_wide()) {
-        (Op::Add, true) => add_difference(by, on, t, next),
-        (Op::Add, false) => add_cell(by.greatest, on, t, next),
+    match (by.ranges, by.cells, PackedHull::<N>::is_wide()) {
+        (Op::Add, _, true) => add_difference(by, on, t, next),
+        (Op::Add, Op::Max, false) => add_cell(true, on, t, next),
+        (Op::Add, Op::Min, false) => add_cell(false, on, t, next),
         _ => false,
     }
 }

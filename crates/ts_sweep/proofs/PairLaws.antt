@@ -79,55 +79,12 @@ both_ends a b c d p q = cc
 
 -- D or F that holds no cell yet, joined with both cells
 most_ends : (x y : ℤ) → IsSmall x → IsSmall y → number_ends (int_max x y)
-    ≡ folded_by Max (folded_by Max (start_ends true) (number_ends x)) (number_ends y)
+    ≡ folded_by Max (folded_by Max (start_ends Max) (number_ends x)) (number_ends y)
 most_ends x y h k = both_ends _ _ _ _ (most_below x y h k) (most_above x y h k)
 
 least_ends : (x y : ℤ) → IsSmall x → IsSmall y → number_ends (int_min x y)
-    ≡ folded_by Min (folded_by Min (start_ends false) (number_ends x)) (number_ends y)
+    ≡ folded_by Min (folded_by Min (start_ends Min) (number_ends x)) (number_ends y)
 least_ends x y h k = both_ends _ _ _ _ (least_below x y h k) (least_above x y h k)
-
--- what a narrow move finds
-narrow_found : (s : Sides) (greatest : Bool) (xs : List ℤ) (x y : ℤ) → IsBegun s false greatest xs → IsSmall x → IsSmall y →
-    kept_ends s (found_ends false greatest x y) ≡ kept_ends s (tree_value (pair_found false greatest) xs x y)
-narrow_found BothEnds true xs x y begun h k =
-    most_ends x y h k ∙ ap (λ d. folded_by Max (folded_by Max d (number_ends x)) (number_ends y)) (sym begun.0)
-narrow_found BothEnds false xs x y begun h k =
-    least_ends x y h k ∙ ap (λ d. folded_by Min (folded_by Min d (number_ends x)) (number_ends y)) (sym begun.0)
-narrow_found UpperEnds true xs x y begun h k =
-    ap (λ z. ends (filled z) z) (most_above x y h k ∙ ap (λ d. int_max (int_max d.above x) y) (sym begun.0))
-narrow_found UpperEnds false xs x y begun h k =
-    ap (λ z. ends (filled z) z) (least_above x y h k ∙ ap (λ d. int_min (int_min d.above x) y) (sym begun.0))
-narrow_found LowerEnds true xs x y begun h k =
-    ap (λ z. ends z (filled z)) (most_below x y h k ∙ ap (λ d. int_min (int_min d.below (neg_ℤ x)) (neg_ℤ y)) (sym begun.0))
-narrow_found LowerEnds false xs x y begun h k =
-    ap (λ z. ends z (filled z)) (least_below x y h k ∙ ap (λ d. int_max (int_max d.below (neg_ℤ x)) (neg_ℤ y)) (sym begun.0))
-
--- and a wide one
-wide_found : (xs : List ℤ) (x y : ℤ) → IsBegun BothEnds true true xs → IsSmall x → IsSmall y →
-    found_ends true true x y ≡ tree_value (pair_found true true) xs x y
-wide_found xs x y begun h k =
-    let most = most_small x y h k in
-    let least = least_small x y h k in
-    both_ends _ _ _ _ (less_below (int_max x y) (int_min x y) most least) (less_above (int_max x y) (int_min x y) most least)
-    ∙ ap (λ a. folded_by Add a (crossed (number_ends (int_min x y))))
-    (most_ends x y h k ∙ ap (λ d. folded_by Max (folded_by Max d (number_ends x)) (number_ends y)) (sym begun.0))
-    ∙ ap (λ b. folded_by Add (folded_by Max (folded_by Max (name_ends xs D) (number_ends x)) (number_ends y)) (crossed b))
-    (least_ends x y h k ∙ ap (λ d. folded_by Min (folded_by Min d (number_ends x)) (number_ends y)) (sym begun.1))
-
-pub found_kept : (s : Sides) (wide greatest : Bool) (xs : List ℤ) (x y : ℤ) → (s ≡ BothEnds) ⊎ (wide ≡ false) → (wide ≡ true → greatest ≡ true) →
-    IsBegun s wide greatest xs → IsSmall x → IsSmall y →
-    kept_ends s (found_ends wide greatest x y) ≡ kept_ends s (tree_value (pair_found wide greatest) xs x y)
-found_kept s false greatest xs x y alone one begun h k = narrow_found s greatest xs x y begun h k
-found_kept BothEnds true true xs x y alone one begun h k = wide_found xs x y begun h k
-found_kept UpperEnds true true xs x y alone one begun h k = elim alone [ inl e ↦ cc | inr e ↦ cc ]
-found_kept LowerEnds true true xs x y alone one begun h k = elim alone [ inl e ↦ cc | inr e ↦ cc ]
-found_kept s true false xs x y alone one begun h k = never_added (sym (one refl))
-
--- E of an emission: a narrow hull has no lanes for it
-pub held_is : (wide : Bool) (xs : List ℤ) (e : Ends) (x y : ℤ) → e ≡ ends_in xs (place_in wide E) → e ≡ name_ends xs E →
-    e ≡ tree_value (Leaf (cond wide AtomE Zero)) xs x y
-held_is true xs e x y placed named = named
-held_is false xs e x y placed named = placed
 
 -- the sum of small ends isn't clamped
 
@@ -142,6 +99,86 @@ add_above x y h k =
     let p = h.0 in let q = h.1 in let u = k.0 in let v = k.1 in
     let same : (x +ℤ y) ≡ clamp (x +ℤ y) = omega (arith, ints, clamps) in
     same ∙ above_numbers x y (omega (arith, ints, p, q)) (omega (arith, ints, p, q)) (omega (arith, ints, u, v)) (omega (arith, ints, u, v))
+
+-- D that is 0, with both cells added
+
+small_one : (x : ℤ) → IsSmall x → IsWithin 1 x
+small_one x h = let p = h.0 in let q = h.1 in (omega (arith, ints, p), omega (arith, ints, q))
+
+negated_one : (x : ℤ) → IsSmall x → IsWithin 1 (neg_ℤ x)
+negated_one x h = let p = h.0 in let q = h.1 in (omega (arith, ints, q), omega (arith, ints, p))
+
+zero_one : IsWithin 1 (pos 0)
+zero_one = (omega (arith, ints), omega (arith, ints))
+
+zero_left : (x : ℤ) → IsWithin 1 x → IsWithin 1 (pos 0 +ℤ x)
+zero_left x h = let p = h.0 in let q = h.1 in (omega (arith, ints, p), omega (arith, ints, q))
+
+sum_above_start : (x y : ℤ) → IsSmall x → IsSmall y → (x +ℤ y) ≡ sum_above (sum_above (pos 0) x) y
+sum_above_start x y h k =
+    let plain : (x +ℤ y) ≡ (pos 0 +ℤ x) +ℤ y = omega (arith, ints) in
+    plain ∙ add_above (pos 0 +ℤ x) y (zero_left x (small_one x h)) (small_one y k)
+    ∙ ap (λ z. sum_above z y) (add_above (pos 0) x zero_one (small_one x h))
+
+sum_below_start : (x y : ℤ) → IsSmall x → IsSmall y → neg_ℤ (x +ℤ y) ≡ sum_below (sum_below (pos 0) (neg_ℤ x)) (neg_ℤ y)
+sum_below_start x y h k =
+    let plain : neg_ℤ (x +ℤ y) ≡ (pos 0 +ℤ neg_ℤ x) +ℤ neg_ℤ y = omega (arith, ints) in
+    plain ∙ add_below (pos 0 +ℤ neg_ℤ x) (neg_ℤ y) (zero_left (neg_ℤ x) (negated_one x h)) (negated_one y k)
+    ∙ ap (λ z. sum_below z (neg_ℤ y)) (add_below (pos 0) (neg_ℤ x) zero_one (negated_one x h))
+
+sum_ends : (x y : ℤ) → IsSmall x → IsSmall y → number_ends (x +ℤ y)
+    ≡ folded_by Add (folded_by Add (start_ends Add) (number_ends x)) (number_ends y)
+sum_ends x y h k = both_ends _ _ _ _ (sum_below_start x y h k) (sum_above_start x y h k)
+
+-- what a narrow move finds
+narrow_found : (s : Sides) (cells : Op) (xs : List ℤ) (x y : ℤ) → IsBegun s false cells xs → IsSmall x → IsSmall y →
+    kept_ends s (found_ends false cells x y) ≡ kept_ends s (tree_value (pair_found false cells) xs x y)
+narrow_found BothEnds Add xs x y begun h k =
+    sum_ends x y h k ∙ ap (λ d. folded_by Add (folded_by Add d (number_ends x)) (number_ends y)) (sym begun.0)
+narrow_found UpperEnds Add xs x y begun h k =
+    ap (λ z. ends (filled z) z) (sum_above_start x y h k ∙ ap (λ d. sum_above (sum_above d.above x) y) (sym begun.0))
+narrow_found LowerEnds Add xs x y begun h k =
+    ap (λ z. ends z (filled z)) (sum_below_start x y h k ∙ ap (λ d. sum_below (sum_below d.below (neg_ℤ x)) (neg_ℤ y)) (sym begun.0))
+narrow_found BothEnds Max xs x y begun h k =
+    most_ends x y h k ∙ ap (λ d. folded_by Max (folded_by Max d (number_ends x)) (number_ends y)) (sym begun.0)
+narrow_found BothEnds Min xs x y begun h k =
+    least_ends x y h k ∙ ap (λ d. folded_by Min (folded_by Min d (number_ends x)) (number_ends y)) (sym begun.0)
+narrow_found UpperEnds Max xs x y begun h k =
+    ap (λ z. ends (filled z) z) (most_above x y h k ∙ ap (λ d. int_max (int_max d.above x) y) (sym begun.0))
+narrow_found UpperEnds Min xs x y begun h k =
+    ap (λ z. ends (filled z) z) (least_above x y h k ∙ ap (λ d. int_min (int_min d.above x) y) (sym begun.0))
+narrow_found LowerEnds Max xs x y begun h k =
+    ap (λ z. ends z (filled z)) (most_below x y h k ∙ ap (λ d. int_min (int_min d.below (neg_ℤ x)) (neg_ℤ y)) (sym begun.0))
+narrow_found LowerEnds Min xs x y begun h k =
+    ap (λ z. ends z (filled z)) (least_below x y h k ∙ ap (λ d. int_max (int_max d.below (neg_ℤ x)) (neg_ℤ y)) (sym begun.0))
+
+-- and a wide one
+wide_found : (xs : List ℤ) (x y : ℤ) → IsBegun BothEnds true Max xs → IsSmall x → IsSmall y →
+    found_ends true Max x y ≡ tree_value (pair_found true Max) xs x y
+wide_found xs x y begun h k =
+    let most = most_small x y h k in
+    let least = least_small x y h k in
+    both_ends _ _ _ _ (less_below (int_max x y) (int_min x y) most least) (less_above (int_max x y) (int_min x y) most least)
+    ∙ ap (λ a. folded_by Add a (crossed (number_ends (int_min x y))))
+    (most_ends x y h k ∙ ap (λ d. folded_by Max (folded_by Max d (number_ends x)) (number_ends y)) (sym begun.0))
+    ∙ ap (λ b. folded_by Add (folded_by Max (folded_by Max (name_ends xs D) (number_ends x)) (number_ends y)) (crossed b))
+    (least_ends x y h k ∙ ap (λ d. folded_by Min (folded_by Min d (number_ends x)) (number_ends y)) (sym begun.1))
+
+pub found_kept : (s : Sides) (wide : Bool) (cells : Op) (xs : List ℤ) (x y : ℤ) → (s ≡ BothEnds) ⊎ (wide ≡ false) → (wide ≡ true → cells ≡ Max) →
+    IsBegun s wide cells xs → IsSmall x → IsSmall y →
+    kept_ends s (found_ends wide cells x y) ≡ kept_ends s (tree_value (pair_found wide cells) xs x y)
+found_kept s false cells xs x y alone one begun h k = narrow_found s cells xs x y begun h k
+found_kept BothEnds true Max xs x y alone one begun h k = wide_found xs x y begun h k
+found_kept UpperEnds true Max xs x y alone one begun h k = elim alone [ inl e ↦ cc | inr e ↦ cc ]
+found_kept LowerEnds true Max xs x y alone one begun h k = elim alone [ inl e ↦ cc | inr e ↦ cc ]
+found_kept s true Add xs x y alone one begun h k = let e = one refl in cc
+found_kept s true Min xs x y alone one begun h k = let e = one refl in cc
+
+-- E of an emission: a narrow hull has no lanes for it
+pub held_is : (wide : Bool) (xs : List ℤ) (e : Ends) (x y : ℤ) → e ≡ ends_in xs (place_in wide E) → e ≡ name_ends xs E →
+    e ≡ tree_value (Leaf (cond wide AtomE Zero)) xs x y
+held_is true xs e x y placed named = named
+held_is false xs e x y placed named = placed
 
 pub add_ends : (a b : Ends) → AreWithin 1 a → AreWithin 1 b → sum_of_ends a b ≡ folded_by Add a b
 add_ends a b h k = both_ends _ _ _ _ (add_below a.below b.below h.0 k.0) (add_above a.above b.above h.1 k.1)
@@ -159,13 +196,19 @@ number_within x h = let p = h.0 in let q = h.1 in ((omega (arith, ints, q), omeg
 less_within : (a b : ℤ) → IsSmall a → IsSmall b → IsWithin 1 (a -ℤ b)
 less_within a b h k = let p = h.0 in let q = h.1 in let u = k.0 in let v = k.1 in (omega (arith, ints, p, q, u, v), omega (arith, ints, p, q, u, v))
 
-pub found_within : (wide greatest : Bool) (x y : ℤ) → IsSmall x → IsSmall y → AreWithin 1 (found_ends wide greatest x y)
-found_within true greatest x y h k = (
+both_within : (x y : ℤ) → IsSmall x → IsSmall y → AreWithin 1 (number_ends (x +ℤ y))
+both_within x y h k =
+    let p = h.0 in let q = h.1 in let u = k.0 in let v = k.1 in
+    ((omega (arith, ints, q, v), omega (arith, ints, p, u)), (omega (arith, ints, p, u), omega (arith, ints, q, v)))
+
+pub found_within : (wide : Bool) (cells : Op) (x y : ℤ) → IsSmall x → IsSmall y → AreWithin 1 (found_ends wide cells x y)
+found_within true cells x y h k = (
   less_within (int_min x y) (int_max x y) (least_small x y h k) (most_small x y h k),
   less_within (int_max x y) (int_min x y) (most_small x y h k) (least_small x y h k),
 )
-found_within false true x y h k = number_within (int_max x y) (most_small x y h k)
-found_within false false x y h k = number_within (int_min x y) (least_small x y h k)
+found_within false Add x y h k = both_within x y h k
+found_within false Max x y h k = number_within (int_max x y) (most_small x y h k)
+found_within false Min x y h k = number_within (int_min x y) (least_small x y h k)
 
 -- the values between the bounds are those that compare
 

@@ -7,7 +7,7 @@ use Rattle.std.proofs.lemmas.Int.{ints, clamps}
 use Rattle.ts_base.specs.Numbers.{clamp}
 use Rattle.ts_base.specs.declared.letter.Letter.{Letter}
 use Rattle.ts_base.specs.declared.letter.Letter.TheVariants.{Less, Equal, Greater}
-use Rattle.ts_base.specs.declared.op.Op.TheVariants.{Add}
+use Rattle.ts_base.specs.declared.op.Op.TheVariants.{Add, Max}
 use Rattle.ts_automaton.specs.declared.expr.Atom.TheVariants.{C as AtomC, R as AtomR, This, Next, NegInf as LowAtom, PosInf as HighAtom}
 use Rattle.ts_automaton.specs.declared.expr.Operator.TheVariants.{Fold, Sub}
 use Rattle.ts_automaton.specs.declared.regs.Hull.{Hull}
@@ -27,7 +27,7 @@ use Rattle.ts_sweep.specs.Lanes.{least, some_lanes}
 use Rattle.ts_sweep.specs.Moves.{beside, of_name, with_all}
 use Rattle.ts_sweep.specs.MoveLaws.{all_kept}
 use Rattle.ts_sweep.specs.Packed.{ArePacked, AreWithin, IsPacked, IsWithin, ends, is_wide, name_ends, number_ends, unpacked}
-use Rattle.ts_sweep.specs.PairMoves.{IsBegun, IsEmitted, emission, found_atom, found_ends, held_atom, open_atom, pair_found, start_atom}
+use Rattle.ts_sweep.specs.PairMoves.{IsBegun, IsEmitted, emission, found_atom, found_ends, held_atom, open_atom, pair_found, pair_op, start_atom}
 use Rattle.ts_sweep.specs.Sides.{Sides, BothEnds, UpperEnds, LowerEnds, as_read, kept_ends, seen_hull}
 use Rattle.ts_sweep.specs.SidesLaws.{narrow_or_both}
 use Rattle.ts_sweep.specs.Small.{IsSmall}
@@ -71,7 +71,7 @@ least_this v w h = grind (arith, ints)
 -- so which of them is found
 
 cell_is : (l : Letter) (twin greatest : Bool) (xs : List ℤ) (v w : ℤ) → IsSmall v → compares l twin v w ≡ true →
-    tree_value (Leaf (found_atom l greatest)) xs v w ≡ found_ends false greatest v w
+    tree_value (Leaf (found_atom l greatest)) xs v w ≡ found_ends false (pair_op greatest) v w
 cell_is Less twin true xs v w small is = ap number_ends (most_next v w (below_next twin v w small is))
 cell_is Less twin false xs v w small is = ap number_ends (least_this v w (below_next twin v w small is))
 cell_is Greater twin true xs v w small is = ap number_ends (most_this v w (above_next twin v w small is))
@@ -83,12 +83,12 @@ cell_is Equal twin false xs v w small is =
     let h : int_le v w ≡ true = (and_parts (int_le w v) (int_le v w) (reach_compares Equal twin v w small ∙ is)).1 in
     ap number_ends (least_this v w (grind (arith, ints, h)))
 
-cell_added : (s : Sides) (l : Letter) (twin greatest : Bool) (xs : List ℤ) (v w : ℤ) → IsBegun s false greatest xs → IsSmall v → IsSmall w →
+cell_added : (s : Sides) (l : Letter) (twin greatest : Bool) (xs : List ℤ) (v w : ℤ) → IsBegun s false (pair_op greatest) xs → IsSmall v → IsSmall w →
     compares l twin v w ≡ true → kept_ends s (tree_value (Join (Fold Add) (Leaf AtomR) (Leaf (found_atom l greatest))) xs v w)
-    ≡ kept_ends s (tree_value (Join (Fold Add) (Leaf AtomR) (pair_found false greatest)) xs v w)
+    ≡ kept_ends s (tree_value (Join (Fold Add) (Leaf AtomR) (pair_found false (pair_op greatest))) xs v w)
 cell_added s l twin greatest xs v w begun sv sw is =
-    kept_joined s Add (name_ends xs R) (tree_value (Leaf (found_atom l greatest)) xs v w) (tree_value (pair_found false greatest) xs v w)
-    (ap (kept_ends s) (cell_is l twin greatest xs v w sv is) ∙ found_kept s false greatest xs v w (inr refl) (λ e. cc) begun sv sw)
+    kept_joined s Add (name_ends xs R) (tree_value (Leaf (found_atom l greatest)) xs v w) (tree_value (pair_found false (pair_op greatest)) xs v w)
+    (ap (kept_ends s) (cell_is l twin greatest xs v w sv is) ∙ found_kept s false (pair_op greatest) xs v w (inr refl) (λ e. cc) begun sv sw)
 
 -- sums of few small numbers aren't clamped
 
@@ -134,14 +134,14 @@ rise_below : (x v w : ℤ) → IsWithin 1 x → IsSmall v → IsSmall w → v �
 rise_below x v w h sv sw le =
     ap (λ z. sum_below z (neg_ℤ w)) (sym (plain_below x v (twice_within x h) (small_within v sv)))
     ∙ sym (plain_below (x +ℤ v) (neg_ℤ w) (sum_within x v h (small_within v sv)) (small_negated w sw)) ∙ risen_below x v w le
-    ∙ plain_below x (int_min v w -ℤ int_max v w) (twice_within x h) (found_within true true v w sv sw).0
+    ∙ plain_below x (int_min v w -ℤ int_max v w) (twice_within x h) (found_within true Max v w sv sw).0
 
 rise_above : (x v w : ℤ) → IsWithin 1 x → IsSmall v → IsSmall w → v ≤ℤ w →
     sum_above (sum_above x (neg_ℤ v)) w ≡ sum_above x (int_max v w -ℤ int_min v w)
 rise_above x v w h sv sw le =
     ap (λ z. sum_above z w) (sym (plain_above x (neg_ℤ v) (twice_within x h) (small_negated v sv)))
     ∙ sym (plain_above (x +ℤ neg_ℤ v) w (sum_within x (neg_ℤ v) h (small_negated v sv)) (small_within w sw)) ∙ risen_above x v w le
-    ∙ plain_above x (int_max v w -ℤ int_min v w) (twice_within x h) (found_within true true v w sv sw).1
+    ∙ plain_above x (int_max v w -ℤ int_min v w) (twice_within x h) (found_within true Max v w sv sw).1
 
 fallen_below : (x v w : ℤ) → w ≤ℤ v → ((x +ℤ neg_ℤ v) +ℤ neg_ℤ (neg_ℤ w)) ≡ x +ℤ (int_min v w -ℤ int_max v w)
 fallen_below x v w h =
@@ -160,14 +160,14 @@ fall_below : (x v w : ℤ) → IsWithin 1 x → IsSmall v → IsSmall w → w �
 fall_below x v w h sv sw le =
     ap (λ z. sum_below z (neg_ℤ (neg_ℤ w))) (sym (plain_below x (neg_ℤ v) (twice_within x h) (small_negated v sv)))
     ∙ sym (plain_below (x +ℤ neg_ℤ v) (neg_ℤ (neg_ℤ w)) (sum_within x (neg_ℤ v) h (small_negated v sv)) (small_negated (neg_ℤ w) (turned_small w sw)))
-    ∙ fallen_below x v w le ∙ plain_below x (int_min v w -ℤ int_max v w) (twice_within x h) (found_within true true v w sv sw).0
+    ∙ fallen_below x v w le ∙ plain_below x (int_min v w -ℤ int_max v w) (twice_within x h) (found_within true Max v w sv sw).0
 
 fall_above : (x v w : ℤ) → IsWithin 1 x → IsSmall v → IsSmall w → w ≤ℤ v →
     sum_above (sum_above x v) (neg_ℤ w) ≡ sum_above x (int_max v w -ℤ int_min v w)
 fall_above x v w h sv sw le =
     ap (λ z. sum_above z (neg_ℤ w)) (sym (plain_above x v (twice_within x h) (small_within v sv)))
     ∙ sym (plain_above (x +ℤ v) (neg_ℤ w) (sum_within x v h (small_within v sv)) (small_negated w sw)) ∙ fallen_above x v w le
-    ∙ plain_above x (int_max v w -ℤ int_min v w) (twice_within x h) (found_within true true v w sv sw).1
+    ∙ plain_above x (int_max v w -ℤ int_min v w) (twice_within x h) (found_within true Max v w sv sw).1
 
 same_ends : (a b c d : ℤ) → a ≡ c → b ≡ d → ends a b ≡ ends c d
 same_ends a b c d p q = cc
@@ -176,23 +176,23 @@ same_ends a b c d p q = cc
 abbrev pub rise_added : Formula
 rise_added = Join (Fold Add) (Join Sub (Leaf AtomR) (Leaf This)) (Leaf Next)
 
-rise_is : (xs : List ℤ) (v w : ℤ) → IsBegun BothEnds true true xs → AreWithin 1 (name_ends xs R) → IsSmall v → IsSmall w → v ≤ℤ w →
-    tree_value rise_added xs v w ≡ tree_value (Join (Fold Add) (Leaf AtomR) (pair_found true true)) xs v w
+rise_is : (xs : List ℤ) (v w : ℤ) → IsBegun BothEnds true Max xs → AreWithin 1 (name_ends xs R) → IsSmall v → IsSmall w → v ≤ℤ w →
+    tree_value rise_added xs v w ≡ tree_value (Join (Fold Add) (Leaf AtomR) (pair_found true Max)) xs v w
 rise_is xs v w begun plain sv sw le =
     let r = name_ends xs R in
     same_ends _ _ _ _ (rise_below r.below v w plain.0 sv sw le) (rise_above r.above v w plain.1 sv sw le)
-    ∙ ap (folded_by Add r) (found_kept BothEnds true true xs v w (inl refl) (λ e. refl) begun sv sw)
+    ∙ ap (folded_by Add r) (found_kept BothEnds true Max xs v w (inl refl) (λ e. refl) begun sv sw)
 
 -- R, the cell, and the next one, which is negated
 abbrev pub fall_added : Formula
 fall_added = Join (Fold Add) (Join (Fold Add) (Leaf AtomR) (Leaf This)) (Leaf Next)
 
-fall_is : (xs : List ℤ) (v w : ℤ) → IsBegun BothEnds true true xs → AreWithin 1 (name_ends xs R) → IsSmall v → IsSmall w → w ≤ℤ v →
-    tree_value fall_added xs v (neg_ℤ w) ≡ tree_value (Join (Fold Add) (Leaf AtomR) (pair_found true true)) xs v w
+fall_is : (xs : List ℤ) (v w : ℤ) → IsBegun BothEnds true Max xs → AreWithin 1 (name_ends xs R) → IsSmall v → IsSmall w → w ≤ℤ v →
+    tree_value fall_added xs v (neg_ℤ w) ≡ tree_value (Join (Fold Add) (Leaf AtomR) (pair_found true Max)) xs v w
 fall_is xs v w begun plain sv sw le =
     let r = name_ends xs R in
     same_ends _ _ _ _ (fall_below r.below v w plain.0 sv sw le) (fall_above r.above v w plain.1 sv sw le)
-    ∙ ap (folded_by Add r) (found_kept BothEnds true true xs v w (inl refl) (λ e. refl) begun sv sw)
+    ∙ ap (folded_by Add r) (found_kept BothEnds true Max xs v w (inl refl) (λ e. refl) begun sv sw)
 
 -- moves that make the same of each hull between values that compare give the same
 
@@ -224,14 +224,14 @@ turned_alike s m m' l twin n v h w same =
 
 -- the expressions of an emission, with another one of R
 abbrev pub emission_with : Bool → Bool → Formula → EachOf Formula
-emission_with wide greatest r = each (Leaf AtomC) (Leaf (held_atom wide)) (Leaf (start_atom greatest)) (Leaf (open_atom wide)) r
+emission_with wide greatest r = each (Leaf AtomC) (Leaf (held_atom wide)) (Leaf (start_atom (pair_op greatest))) (Leaf (open_atom wide)) r
 
 narrow_for : (s : Sides) (f : Formula) → is_narrow f ≡ true → IsFor s f
 narrow_for BothEnds f h = tt
 narrow_for UpperEnds f h = h
 narrow_for LowerEnds f h = h
 
-start_for : (s : Sides) (greatest : Bool) → IsFor s (Leaf (start_atom greatest))
+start_for : (s : Sides) (greatest : Bool) → IsFor s (Leaf (start_atom (pair_op greatest)))
 start_for s true = narrow_for s (Leaf LowAtom) refl
 start_for s false = narrow_for s (Leaf HighAtom) refl
 
@@ -250,7 +250,7 @@ module _ (s : Sides) (n : ℕ) (alone : (s ≡ BothEnds) ⊎ (is_wide n ≡ fals
   abbrev made_lanes : List ℤ → ℤ → ℤ → Ends → List ℤ
   made_lanes xs x y e =
       with_all n xs (all_kept s (of_name (each (tree_value (Leaf AtomC) (as_read s xs) x y)
-      (beside (is_wide n) (tree_value (Leaf (held_atom wide)) (as_read s xs) x y)) (tree_value (Leaf (start_atom greatest)) (as_read s xs) x y)
+      (beside (is_wide n) (tree_value (Leaf (held_atom wide)) (as_read s xs) x y)) (tree_value (Leaf (start_atom (pair_op greatest))) (as_read s xs) x y)
       (beside (is_wide n) (tree_value (Leaf (open_atom wide)) (as_read s xs) x y)) e)))
 
   made_by : (m : Move) (r : Formula) (xs : List ℤ) (x y : ℤ) (e : Ends) → m.to ≡ emission_with wide greatest r → IsFor s r → IsPacked n xs →
@@ -259,7 +259,7 @@ module _ (s : Sides) (n : ℕ) (alone : (s ≡ BothEnds) ⊎ (is_wide n ≡ fals
   made_by m r xs x y e made suits p some sx sy is =
       let zs = as_read s xs in
       (moved_some s m n xs (made_lanes xs x y e) x y (tree_value (Leaf AtomC) zs x y) (beside (is_wide n) (tree_value (Leaf (held_atom wide)) zs x y))
-      (tree_value (Leaf (start_atom greatest)) zs x y) (beside (is_wide n) (tree_value (Leaf (open_atom wide)) zs x y)) e alone big
+      (tree_value (Leaf (start_atom (pair_op greatest))) zs x y) (beside (is_wide n) (tree_value (Leaf (open_atom wide)) zs x y)) e alone big
       (ap (λ b. rests is_zero b m.to) width ∙ ap (rests is_zero wide) made ∙ emission_rests wide greatest r)
       (subst (λ t. AllByRecursion (IsFor s) (in_order false t)) (sym made) (narrow_for s (Leaf AtomC) refl, (start_for s greatest, (suits, tt)))) p some sx sy
       (ap (λ t. kept_ends s (tree_value t.c zs x y)) (sym made)) (ap (λ t. kept_ends s (beside (is_wide n) (tree_value t.e zs x y))) (sym made))
@@ -294,13 +294,14 @@ module _ (s : Sides) (n : ℕ) (alone : (s ≡ BothEnds) ⊎ (is_wide n ≡ fals
 
 -- what is found, added to R, and the cell that is found
 abbrev pub found_added : Bool → Bool → Formula
-found_added wide greatest = Join (Fold Add) (Leaf AtomR) (pair_found wide greatest)
+found_added wide greatest = Join (Fold Add) (Leaf AtomR) (pair_found wide (pair_op greatest))
 
 abbrev pub cell_formula : Letter → Bool → Formula
 cell_formula l greatest = Join (Fold Add) (Leaf AtomR) (Leaf (found_atom l greatest))
 
 module _ {X : Type 0} (s : Sides) (lanes : X → List ℤ) (nothing : X) (n : ℕ) (alone : (s ≡ BothEnds) ⊎ (is_wide n ≡ false)) (big : 6 ≤ n) (by : Emission)
-    (adds : by.ranges ≡ Add) (made : (move_of by.turn.now).to ≡ emission (is_wide n) by.ranges by.greatest) (suits : IsMoveFor s (move_of by.turn.now))
+    (greatest : Bool) (cells : by.cells ≡ pair_op greatest) (adds : by.ranges ≡ Add)
+    (made : (move_of by.turn.now).to ≡ emission (is_wide n) by.ranges by.cells) (suits : IsMoveFor s (move_of by.turn.now))
     (l : Letter) (twin : Bool) (count : ℕ) (v : ℕ → ℤ) (before : List X) (packed : ArePacked lanes nothing n count before)
     (sv : (i : ℕ) → i < count → IsSmall (v i))
     (fit : (i : ℕ) → i < count → some_lanes (lanes (get_or before i nothing)) ≡ true →
@@ -308,42 +309,46 @@ module _ {X : Type 0} (s : Sides) (lanes : X → List ℤ) (nothing : X) (n : �
   abbrev pub m : Move
   m = move_of by.turn.now
 
-  adds_found : (wide : Bool) → is_wide n ≡ wide → m.to ≡ emission_with wide by.greatest (found_added wide by.greatest)
-  adds_found wide width = made ∙ ap (λ o. emission (is_wide n) o by.greatest) adds ∙ ap (λ b. emission b Add by.greatest) width
+  adds_found : (wide : Bool) → is_wide n ≡ wide → m.to ≡ emission_with wide greatest (found_added wide greatest)
+  adds_found wide width = made ∙ ap (λ o. emission (is_wide n) o by.cells) adds ∙ ap (λ b. emission b Add by.cells) width
+      ∙ ap (emission wide Add) cells
 
-  suits_found : (wide : Bool) → is_wide n ≡ wide → IsFor s (found_added wide by.greatest)
+  begun_by : (wide : Bool) → is_wide n ≡ wide → (xs : List ℤ) → IsBegun s (is_wide n) by.cells xs → IsBegun s wide (pair_op greatest) xs
+  begun_by wide width xs h = subst (λ b. IsBegun s b (pair_op greatest) xs) width (subst (λ o. IsBegun s (is_wide n) o xs) cells h)
+
+  suits_found : (wide : Bool) → is_wide n ≡ wide → IsFor s (found_added wide greatest)
   suits_found wide width = subst (λ t. IsFor s t.r) (adds_found wide width) suits.1.1.0
 
   -- in narrow hulls the cell that is found is added
-  pub cell_taken : is_wide n ≡ false → IsMoved s lanes nothing (record { next = 0; to = emission_with false by.greatest (cell_formula l by.greatest) })
+  pub cell_taken : is_wide n ≡ false → IsMoved s lanes nothing (record { next = 0; to = emission_with false greatest (cell_formula l greatest) })
       l twin count v before k w old new → IsMoved s lanes nothing m l twin count v before k w old new
   cell_taken width =
-      moved_alike s n alone big false by.greatest width lanes nothing m
-      (record { next = 0; to = emission_with false by.greatest (cell_formula l by.greatest) }) (found_added false by.greatest) (cell_formula l by.greatest)
-      (adds_found false width) refl (suits_found false width) (found_for s l by.greatest) l twin count v before packed sv k w sw old new
-      (λ i j inside lt some is. cell_added s l twin by.greatest (as_read s (lanes (get_or before i nothing))) (v i) (w j)
-      (subst (λ b. IsBegun s b by.greatest (as_read s (lanes (get_or before i nothing)))) width (fit i inside some).begun) (sv i inside) (sw j lt) is)
+      moved_alike s n alone big false greatest width lanes nothing m
+      (record { next = 0; to = emission_with false greatest (cell_formula l greatest) }) (found_added false greatest) (cell_formula l greatest)
+      (adds_found false width) refl (suits_found false width) (found_for s l greatest) l twin count v before packed sv k w sw old new
+      (λ i j inside lt some is. cell_added s l twin greatest (as_read s (lanes (get_or before i nothing))) (v i) (w j)
+      (begun_by false width (as_read s (lanes (get_or before i nothing))) (fit i inside some).begun) (sv i inside) (sw j lt) is)
 
   -- in wide ones, on `<`, the next cell, and the cell is taken away
-  pub rise_taken : is_wide n ≡ true → by.greatest ≡ true → l ≡ Less →
-      IsMoved s lanes nothing (record { next = 0; to = emission_with true by.greatest rise_added }) l twin count v before k w old new →
+  pub rise_taken : is_wide n ≡ true → greatest ≡ true → l ≡ Less →
+      IsMoved s lanes nothing (record { next = 0; to = emission_with true greatest rise_added }) l twin count v before k w old new →
       IsMoved s lanes nothing m l twin count v before k w old new
   rise_taken width one less =
       let both = narrow_or_both s (is_wide n) alone width in
-      moved_alike s n alone big true by.greatest width lanes nothing m (record { next = 0; to = emission_with true by.greatest rise_added })
-      (found_added true by.greatest) rise_added (adds_found true width) refl (suits_found true width)
+      moved_alike s n alone big true greatest width lanes nothing m (record { next = 0; to = emission_with true greatest rise_added })
+      (found_added true greatest) rise_added (adds_found true width) refl (suits_found true width)
       (subst (λ z. IsFor z rise_added) (sym both) tt) l twin count v before packed sv k w sw old new
       (λ i j inside lt some is.
       let xs = as_read s (lanes (get_or before i nothing)) in
       let by_one = fit i inside some in
-      let begun : IsBegun BothEnds true true xs =
-      subst (λ z. IsBegun z true true xs) both (subst (λ g. IsBegun s true g xs) one (subst (λ b. IsBegun s b by.greatest xs) width by_one.begun)) in
+      let begun : IsBegun BothEnds true Max xs =
+      subst (λ z. IsBegun z true Max xs) both (subst (λ g. IsBegun s true (pair_op g) xs) one (begun_by true width xs by_one.begun)) in
       ap (kept_ends s) (rise_is xs (v i) (w j) begun (by_one.small adds) (sv i inside) (sw j lt)
       (below_next twin (v i) (w j) (sv i inside) (subst (λ z. compares z twin (v i) (w j) ≡ true) less is))
       ∙ ap (λ g. tree_value (found_added true g) xs (v i) (w j)) (sym one)))
 
   -- and on `>` the cell, and the next one is taken away
-  pub fall_taken : is_wide n ≡ true → by.greatest ≡ true → l ≡ Greater →
+  pub fall_taken : is_wide n ≡ true → greatest ≡ true → l ≡ Greater →
       IsTurned s lanes nothing (record { next = 0; to = emission_with true true fall_added }) l twin count v before k w old new →
       IsMoved s lanes nothing m l twin count v before k w old new
   fall_taken width one greater moved j lt =
@@ -363,8 +368,8 @@ module _ {X : Type 0} (s : Sides) (lanes : X → List ℤ) (nothing : X) (n : �
         | true ↦ λ some.
             let e = tree_value fall_added zs (v i) y in
             let by_one = fit i inside some in
-            let begun : IsBegun BothEnds true true zs =
-            subst (λ z. IsBegun z true true zs) both (subst (λ g. IsBegun s true g zs) one (subst (λ b. IsBegun s b by.greatest zs) width by_one.begun)) in
+            let begun : IsBegun BothEnds true Max zs =
+            subst (λ z. IsBegun z true Max zs) both (subst (λ g. IsBegun s true (pair_op g) zs) one (begun_by true width zs by_one.begun)) in
             sym (made_by s n alone big true true width m' fall_added xs (v i) y e refl (any fall_added) (packed.1 i inside) some (sv i inside)
             (turned_small (w j) (sw j lt)) refl)
             ∙ made_by s n alone big true true width m (found_added true true) xs (v i) (w j) e found (any (found_added true true)) (packed.1 i inside) some

@@ -1,6 +1,7 @@
 -- A column that has taken in a move which joins R with the difference of both cells.
 use Rattle.std.proofs.Common.{◌≡◌, ◌⊎◌, ◌≤◌, ◌<◌, ℕ, ℤ, Bool, true, false, cond, List, get_or, refl, ap, ◌∙◌, arith}
 use Rattle.ts_base.specs.declared.letter.Letter.{Letter}
+use Rattle.ts_base.specs.declared.op.Op.TheVariants.{Max}
 use Rattle.ts_automaton.specs.Body.{Move}
 use Rattle.ts_hull.specs.Hulls.{hull_of_both}
 use Rattle.ts_sweep.specs.declared.packed.Ends.{Ends}
@@ -22,11 +23,11 @@ module _ {X : Type 0} (both : X → X → X) (nothing : X) (lanes : X → List �
     (replaced_lanes : (h : X) (k : Name) (e : Ends) → lanes (replaced h k e) ≡ with_ends_in (lanes h) (place n k) (kept_ends s e))
     (alone : (s ≡ BothEnds) ⊎ (is_wide n ≡ false)) (takes : (h : X) → IsPacked n (lanes h) → both h nothing ≡ h) (greatest : Bool) (l : Letter) (twin : Bool)
     (count : ℕ) (v : ℕ → ℤ) (before : List X) (packed : ArePacked lanes nothing n count before) (sv : (i : ℕ) → i < count → IsSmall (v i))
-    (begun : (i : ℕ) → i < count → some_lanes (lanes (get_or before i nothing)) ≡ true → IsBegun s true true (as_read s (lanes (get_or before i nothing))))
+    (begun : (i : ℕ) → i < count → some_lanes (lanes (get_or before i nothing)) ≡ true → IsBegun s true Max (as_read s (lanes (get_or before i nothing))))
     (closing : X → ℤ → X)
     (closing_is : (t : X) (w : ℤ) →
     closing t w ≡ cond (some_lanes (lanes t)) (spread_hull lanes s replaced greatest (top_of lanes s nothing before l twin count v w) t) t) where
-  given : (m : Move) → m.to ≡ emission true (pair_op greatest) true → (w : ℤ) → IsSmall w →
+  given : (m : Move) → m.to ≡ emission true (pair_op greatest) Max → (w : ℤ) → IsSmall w →
       IsPacked n (lanes (closing (met_hull both nothing l twin (λ h v. h) before v w) w))
       × (unpacked (lanes (closing (met_hull both nothing l twin (λ h v. h) before v w) w)) ≡ seen_hull s
       (gives m l twin count v (hull_at lanes nothing before) w))
@@ -40,9 +41,9 @@ module _ {X : Type 0} (both : X → X → X) (nothing : X) (lanes : X → List �
     pub spread_packed : ArePacked lanes nothing n k new
     spread_packed =
         kept_packed both nothing lanes n both_lanes none_lanes big takes _ k old new taken old_packed
-        (λ j lt. (given (record { next = 0; to = emission true (pair_op greatest) true }) refl (next j) (small j lt)).0)
+        (λ j lt. (given (record { next = 0; to = emission true (pair_op greatest) Max }) refl (next j) (small j lt)).0)
 
-    pub spread_moved : (m : Move) → m.to ≡ emission true (pair_op greatest) true → IsMoved s lanes nothing m l twin count v before k next old new
+    pub spread_moved : (m : Move) → m.to ≡ emission true (pair_op greatest) Max → IsMoved s lanes nothing m l twin count v before k next old new
     spread_moved m made j lt =
         let was = get_or old j nothing in
         let gift = closing (met_hull both nothing l twin (λ h v. h) before v (next j)) (next j) in

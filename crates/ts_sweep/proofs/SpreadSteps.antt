@@ -76,22 +76,22 @@ module _ (l : Letter) (twin : Bool) (some : ℕ → Bool) (r : ℕ → Ends) (v 
 
   -- the ends of R
   pub spread_is : (greatest : Bool) → total max_ends no_ends test
-      (λ i. cond (some i) (folded_by (pair_op greatest) (r i) (found_ends true true (v i) w)) no_ends) n
+      (λ i. cond (some i) (folded_by (pair_op greatest) (r i) (found_ends true Max (v i) w)) no_ends) n
       ≡ spread_ends greatest (λ above bounded. top above bounded l twin n some r v w) all
   spread_is true =
       both_are _ _ _
-      (below_total test (λ i. cond (some i) (folded_by Max (r i) (found_ends true true (v i) w)) no_ends) n
+      (below_total test (λ i. cond (some i) (folded_by Max (r i) (found_ends true Max (v i) w)) no_ends) n
       ∙ total_as int_max least test test _ (λ i. lesser false true (some i) (r i) (v i) w) n (λ i lt. refl) (λ i lt. low (some i) i) ∙ best_end false)
-      (above_total test (λ i. cond (some i) (folded_by Max (r i) (found_ends true true (v i) w)) no_ends) n
+      (above_total test (λ i. cond (some i) (folded_by Max (r i) (found_ends true Max (v i) w)) no_ends) n
       ∙ total_as int_max least test test _ (λ i. int_max (end_of true (r i)) (lesser true false (some i) (r i) (v i) w)) n (λ i lt. refl)
       (λ i lt. high i lt (some i) refl)
       ∙ each_end true)
     where
-      low : (b : Bool) (i : ℕ) → (cond b (folded_by Max (r i) (found_ends true true (v i) w)) no_ends).below ≡ lesser false true b (r i) (v i) w
+      low : (b : Bool) (i : ℕ) → (cond b (folded_by Max (r i) (found_ends true Max (v i) w)) no_ends).below ≡ lesser false true b (r i) (v i) w
       low true i = refl
       low false i = refl
 
-      high : (i : ℕ) → i < n → (b : Bool) → some i ≡ b → (cond b (folded_by Max (r i) (found_ends true true (v i) w)) no_ends).above
+      high : (i : ℕ) → i < n → (b : Bool) → some i ≡ b → (cond b (folded_by Max (r i) (found_ends true Max (v i) w)) no_ends).above
           ≡ int_max (end_of true (r i)) (lesser true false b (r i) (v i) w)
       high i lt true e = refl
       high i lt false e = max_nothing (r i).above (least_end true (r i) (idle i lt e))
@@ -100,18 +100,18 @@ module _ (l : Letter) (twin : Bool) (some : ℕ → Bool) (r : ℕ → Ends) (v 
       both_are x a b p q = ap (λ z. ends z x.above) p ∙ ap (ends a) q
   spread_is false =
       both_are _ _ _
-      (below_total test (λ i. cond (some i) (folded_by Min (r i) (found_ends true true (v i) w)) no_ends) n
+      (below_total test (λ i. cond (some i) (folded_by Min (r i) (found_ends true Max (v i) w)) no_ends) n
       ∙ total_as int_max least test test _ (λ i. int_max (end_of false (r i)) (lesser false false (some i) (r i) (v i) w)) n (λ i lt. refl)
       (λ i lt. low i lt (some i) refl)
       ∙ each_end false)
-      (above_total test (λ i. cond (some i) (folded_by Min (r i) (found_ends true true (v i) w)) no_ends) n
+      (above_total test (λ i. cond (some i) (folded_by Min (r i) (found_ends true Max (v i) w)) no_ends) n
       ∙ total_as int_max least test test _ (λ i. lesser true true (some i) (r i) (v i) w) n (λ i lt. refl) (λ i lt. high (some i) i) ∙ best_end true)
     where
-      high : (b : Bool) (i : ℕ) → (cond b (folded_by Min (r i) (found_ends true true (v i) w)) no_ends).above ≡ lesser true true b (r i) (v i) w
+      high : (b : Bool) (i : ℕ) → (cond b (folded_by Min (r i) (found_ends true Max (v i) w)) no_ends).above ≡ lesser true true b (r i) (v i) w
       high true i = refl
       high false i = refl
 
-      low : (i : ℕ) → i < n → (b : Bool) → some i ≡ b → (cond b (folded_by Min (r i) (found_ends true true (v i) w)) no_ends).below
+      low : (i : ℕ) → i < n → (b : Bool) → some i ≡ b → (cond b (folded_by Min (r i) (found_ends true Max (v i) w)) no_ends).below
           ≡ int_max (end_of false (r i)) (lesser false false b (r i) (v i) w)
       low i lt true e = refl
       low i lt false e = max_nothing (r i).below (least_end false (r i) (idle i lt e))
@@ -123,32 +123,32 @@ module _ (l : Letter) (twin : Bool) (some : ℕ → Bool) (r : ℕ → Ends) (v 
 
 abbrev made_lanes : Op → List ℤ → ℤ → ℤ → List ℤ
 made_lanes o xs x y =
-    three_at xs (cond (some_lanes xs) (start_ends true) no_ends) (cond (some_lanes xs) (start_ends false) no_ends)
-    (cond (some_lanes xs) (folded_by o (name_ends xs R) (found_ends true true x y)) no_ends)
+    three_at xs (cond (some_lanes xs) (start_ends Max) no_ends) (cond (some_lanes xs) (start_ends Min) no_ends)
+    (cond (some_lanes xs) (folded_by o (name_ends xs R) (found_ends true Max x y)) no_ends)
 
 abbrev Made : Move → Op → ℕ → List ℤ → ℤ → ℤ → Bool → Type 0
 Made m o n xs x y b =
-    IsPacked n (three_at xs (cond b (start_ends true) no_ends) (cond b (start_ends false) no_ends)
-    (cond b (folded_by o (name_ends xs R) (found_ends true true x y)) no_ends))
-    × (unpacked (three_at xs (cond b (start_ends true) no_ends) (cond b (start_ends false) no_ends)
-    (cond b (folded_by o (name_ends xs R) (found_ends true true x y)) no_ends)) ≡ seen_hull BothEnds (after_move m (unpacked xs) x y))
+    IsPacked n (three_at xs (cond b (start_ends Max) no_ends) (cond b (start_ends Min) no_ends)
+    (cond b (folded_by o (name_ends xs R) (found_ends true Max x y)) no_ends))
+    × (unpacked (three_at xs (cond b (start_ends Max) no_ends) (cond b (start_ends Min) no_ends)
+    (cond b (folded_by o (name_ends xs R) (found_ends true Max x y)) no_ends)) ≡ seen_hull BothEnds (after_move m (unpacked xs) x y))
 
-pub made_is : (m : Move) (o : Op) (n : ℕ) (xs : List ℤ) (x y : ℤ) → 6 ≤ n → is_wide n ≡ true → m.to ≡ emission true o true → IsPacked n xs →
-    (some_lanes xs ≡ true → IsBegun BothEnds true true xs) → IsSmall x → IsSmall y →
+pub made_is : (m : Move) (o : Op) (n : ℕ) (xs : List ℤ) (x y : ℤ) → 6 ≤ n → is_wide n ≡ true → m.to ≡ emission true o Max → IsPacked n xs →
+    (some_lanes xs ≡ true → IsBegun BothEnds true Max xs) → IsSmall x → IsSmall y →
     IsPacked n (made_lanes o xs x y) × (unpacked (made_lanes o xs x y) ≡ seen_hull BothEnds (after_move m (unpacked xs) x y))
 made_is m o n xs x y big wide made p begun sx sy = go (some_lanes xs) refl
   where
     go : (b : Bool) → some_lanes xs ≡ b → Made m o n xs x y b
     go true is =
-        moved_some BothEnds m n xs _ x y (name_ends xs C) (name_ends xs E) (start_ends true) (start_ends false)
-        (folded_by o (name_ends xs R) (found_ends true true x y)) (inl refl) big (ap (λ b. rests is_zero b m.to) wide) (tt, (tt, (tt, tt))) p is sx sy
+        moved_some BothEnds m n xs _ x y (name_ends xs C) (name_ends xs E) (start_ends Max) (start_ends Min)
+        (folded_by o (name_ends xs R) (found_ends true Max x y)) (inl refl) big (ap (λ b. rests is_zero b m.to) wide) (tt, (tt, (tt, tt))) p is sx sy
         (ap (λ t. tree_value t.c xs x y) (sym made))
         (ap (λ b. beside b (name_ends xs E)) (sym wide) ∙ ap (λ t. beside (is_wide n) (tree_value t.e xs x y)) (sym made))
         (ap (λ t. tree_value t.d xs x y) (sym made))
-        (ap (λ b. beside b (start_ends false)) (sym wide) ∙ ap (λ t. beside (is_wide n) (tree_value t.f xs x y)) (sym made))
-        (ap (folded_by o (name_ends xs R)) (found_kept BothEnds true true xs x y (inl refl) (λ e. refl) (begun is) sx sy)
+        (ap (λ b. beside b (start_ends Min)) (sym wide) ∙ ap (λ t. beside (is_wide n) (tree_value t.f xs x y)) (sym made))
+        (ap (folded_by o (name_ends xs R)) (found_kept BothEnds true Max xs x y (inl refl) (λ e. refl) (begun is) sx sy)
         ∙ ap (λ t. tree_value t.r xs x y) (sym made))
-        (sym (with_three n xs (start_ends true) (start_ends false) (folded_by o (name_ends xs R) (found_ends true true x y)) wide (packed_length n xs p)))
+        (sym (with_three n xs (start_ends Max) (start_ends Min) (folded_by o (name_ends xs R) (found_ends true Max x y)) wide (packed_length n xs p)))
     go false is =
         let e = nothing_lanes n xs big p is in
         let same : three_at xs no_ends no_ends no_ends ≡ xs = ap (λ zs. three_at zs no_ends no_ends no_ends) e ∙ three_none n wide ∙ sym e in
@@ -164,10 +164,10 @@ unfolding gives hull_total
 gives_more m l twin i v h w = refl
 
 module _ {X : Type 0} (both : X → X → X) (nothing : X) (lanes : X → List ℤ) (n : ℕ) (both_lanes : (a b : X) → lanes (both a b) ≡ greater_of (lanes a) (lanes b))
-    (none_lanes : lanes nothing ≡ no_lanes n) (big : 6 ≤ n) (wide : is_wide n ≡ true) (m : Move) (o : Op) (made : m.to ≡ emission true o true)
+    (none_lanes : lanes nothing ≡ no_lanes n) (big : 6 ≤ n) (wide : is_wide n ≡ true) (m : Move) (o : Op) (made : m.to ≡ emission true o Max)
     (l : Letter) (twin : Bool) (v : ℕ → ℤ) (before : List X) (w : ℤ) (sw : IsSmall w) (count : ℕ)
     (packed : (i : ℕ) → i < count → IsPacked n (lanes (get_or before i nothing))) (sv : (i : ℕ) → i < count → IsSmall (v i))
-    (begun : (i : ℕ) → i < count → some_lanes (lanes (get_or before i nothing)) ≡ true → IsBegun BothEnds true true (lanes (get_or before i nothing))) where
+    (begun : (i : ℕ) → i < count → some_lanes (lanes (get_or before i nothing)) ≡ true → IsBegun BothEnds true Max (lanes (get_or before i nothing))) where
   abbrev passes : ℕ → Bool
   passes i = compares l twin (v i) w
 
@@ -211,11 +211,11 @@ module _ {X : Type 0} (both : X → X → X) (nothing : X) (lanes : X → List �
   fixed c i = total max_ends no_ends passes (λ k. cond (some_lanes (h k)) c no_ends) i
 
   abbrev joined : ℕ → Ends
-  joined i = total max_ends no_ends passes (λ k. cond (some_lanes (h k)) (folded_by o (name_ends (h k) R) (found_ends true true (v k) w)) no_ends) i
+  joined i = total max_ends no_ends passes (λ k. cond (some_lanes (h k)) (folded_by o (name_ends (h k) R) (found_ends true Max (v k) w)) no_ends) i
 
   -- the lanes of what the first i hulls give
   abbrev gift : ℕ → List ℤ
-  gift i = three_at (lanes (run i)) (fixed (start_ends true) i) (fixed (start_ends false) i) (joined i)
+  gift i = three_at (lanes (run i)) (fixed (start_ends Max) i) (fixed (start_ends Min) i) (joined i)
 
   gift_begun : gift 0 ≡ no_lanes n
   unfolding total
@@ -224,12 +224,12 @@ module _ {X : Type 0} (both : X → X → X) (nothing : X) (lanes : X → List �
   gift_more : (i : ℕ) → gift (suc i) ≡ cond (passes i) (greater_of (gift i) (made_lanes o (h i) (v i) w)) (gift i)
   unfolding total
   gift_more i =
-      ap (λ xs. three_at xs (fixed (start_ends true) (suc i)) (fixed (start_ends false) (suc i)) (joined (suc i))) (run_more i) ∙ go (passes i)
+      ap (λ xs. three_at xs (fixed (start_ends Max) (suc i)) (fixed (start_ends Min) (suc i)) (joined (suc i))) (run_more i) ∙ go (passes i)
     where
       go : (b : Bool) → three_at (cond b (greater_of (lanes (run i)) (h i)) (lanes (run i)))
-          (cond b (max_ends (fixed (start_ends true) i) (cond (some_lanes (h i)) (start_ends true) no_ends)) (fixed (start_ends true) i))
-          (cond b (max_ends (fixed (start_ends false) i) (cond (some_lanes (h i)) (start_ends false) no_ends)) (fixed (start_ends false) i))
-          (cond b (max_ends (joined i) (cond (some_lanes (h i)) (folded_by o (name_ends (h i) R) (found_ends true true (v i) w)) no_ends)) (joined i))
+          (cond b (max_ends (fixed (start_ends Max) i) (cond (some_lanes (h i)) (start_ends Max) no_ends)) (fixed (start_ends Max) i))
+          (cond b (max_ends (fixed (start_ends Min) i) (cond (some_lanes (h i)) (start_ends Min) no_ends)) (fixed (start_ends Min) i))
+          (cond b (max_ends (joined i) (cond (some_lanes (h i)) (folded_by o (name_ends (h i) R) (found_ends true Max (v i) w)) no_ends)) (joined i))
           ≡ cond b (greater_of (gift i) (made_lanes o (h i) (v i) w)) (gift i)
       go true = sym (three_greater (lanes (run i)) (h i) _ _ _ _ _ _)
       go false = refl
@@ -298,17 +298,17 @@ module _ {X : Type 0} (both : X → X → X) (nothing : X) (lanes : X → List �
 
     abbrev end : Name → Ends
     end =
-        ends_by true (name_ends (lanes (run count)) C) (name_ends (lanes (run count)) E) (start_ends true) (start_ends false)
+        ends_by true (name_ends (lanes (run count)) C) (name_ends (lanes (run count)) E) (start_ends Max) (start_ends Min)
         (spread_ends greatest tops (name_ends (lanes (run count)) R))
 
     abbrev closed : X → X
     closed t =
-        cond (some_lanes (lanes t)) (replaced_all replaced t (ends_by true (name_ends (lanes t) C) (name_ends (lanes t) E) (start_ends true)
-        (start_ends false) (spread_ends greatest tops (name_ends (lanes t) R)))) t
+        cond (some_lanes (lanes t)) (replaced_all replaced t (ends_by true (name_ends (lanes t) C) (name_ends (lanes t) E) (start_ends Max)
+        (start_ends Min) (spread_ends greatest tops (name_ends (lanes t) R)))) t
 
     joined_is_spread : joined count ≡ spread_ends greatest tops (name_ends (lanes (run count)) R)
     joined_is_spread =
-        ap (λ p. total max_ends no_ends passes (λ k. cond (some_lanes (h k)) (folded_by p (name_ends (h k) R) (found_ends true true (v k) w)) no_ends) count)
+        ap (λ p. total max_ends no_ends passes (λ k. cond (some_lanes (h k)) (folded_by p (name_ends (h k) R) (found_ends true Max (v k) w)) no_ends) count)
         op_is
         ∙ spread_is l twin (λ k. some_lanes (h k)) (λ k. name_ends (h k) R) v w count idle (name_ends (lanes (run count)) R) r_is greatest
 
@@ -323,29 +323,29 @@ module _ {X : Type 0} (both : X → X → X) (nothing : X) (lanes : X → List �
         len : length (lanes (run count)) ≡ n
         len = packed_length n (lanes (run count)) (run_packed count (omega arith))
 
-        start_is : fixed (start_ends true) count ≡ cond (some_lanes (lanes (run count))) (start_ends true) no_ends
-        start_is = const_is (start_ends true) refl refl refl
+        start_is : fixed (start_ends Max) count ≡ cond (some_lanes (lanes (run count))) (start_ends Max) no_ends
+        start_is = const_is (start_ends Max) refl refl refl
 
-        open_is : fixed (start_ends false) count ≡ cond (some_lanes (lanes (run count))) (start_ends false) no_ends
-        open_is = const_is (start_ends false) refl refl refl
+        open_is : fixed (start_ends Min) count ≡ cond (some_lanes (lanes (run count))) (start_ends Min) no_ends
+        open_is = const_is (start_ends Min) refl refl refl
 
         go : (b : Bool) → some_lanes (lanes (run count)) ≡ b → lanes (cond b (replaced_all replaced (run count) end) (run count)) ≡ gift count
         go true is =
             all_lanes BothEnds lanes replaced n nothing none_lanes replaced_lanes (run count) end
-            ∙ with_three n (lanes (run count)) (start_ends true) (start_ends false) (spread_ends greatest tops (name_ends (lanes (run count)) R)) wide len
-            ∙ ap (λ d. three_at (lanes (run count)) d (start_ends false) (spread_ends greatest tops (name_ends (lanes (run count)) R)))
-            (sym (start_is ∙ ap (λ b. cond b (start_ends true) no_ends) is))
-            ∙ ap (λ f. three_at (lanes (run count)) (fixed (start_ends true) count) f (spread_ends greatest tops (name_ends (lanes (run count)) R)))
-            (sym (open_is ∙ ap (λ b. cond b (start_ends false) no_ends) is))
-            ∙ ap (three_at (lanes (run count)) (fixed (start_ends true) count) (fixed (start_ends false) count)) (sym joined_is_spread)
+            ∙ with_three n (lanes (run count)) (start_ends Max) (start_ends Min) (spread_ends greatest tops (name_ends (lanes (run count)) R)) wide len
+            ∙ ap (λ d. three_at (lanes (run count)) d (start_ends Min) (spread_ends greatest tops (name_ends (lanes (run count)) R)))
+            (sym (start_is ∙ ap (λ b. cond b (start_ends Max) no_ends) is))
+            ∙ ap (λ f. three_at (lanes (run count)) (fixed (start_ends Max) count) f (spread_ends greatest tops (name_ends (lanes (run count)) R)))
+            (sym (open_is ∙ ap (λ b. cond b (start_ends Min) no_ends) is))
+            ∙ ap (three_at (lanes (run count)) (fixed (start_ends Max) count) (fixed (start_ends Min) count)) (sym joined_is_spread)
         go false is =
             let nothing_is = nothing_lanes n (lanes (run count)) big (run_packed count (omega arith)) is in
             nothing_is ∙ sym (three_none n wide) ∙ ap (λ xs. three_at xs no_ends no_ends no_ends) (sym nothing_is)
-            ∙ ap (λ d. three_at (lanes (run count)) d no_ends no_ends) (sym (start_is ∙ ap (λ b. cond b (start_ends true) no_ends) is))
-            ∙ ap (λ f. three_at (lanes (run count)) (fixed (start_ends true) count) f no_ends) (sym (open_is ∙ ap (λ b. cond b (start_ends false) no_ends) is))
-            ∙ ap (three_at (lanes (run count)) (fixed (start_ends true) count) (fixed (start_ends false) count))
+            ∙ ap (λ d. three_at (lanes (run count)) d no_ends no_ends) (sym (start_is ∙ ap (λ b. cond b (start_ends Max) no_ends) is))
+            ∙ ap (λ f. three_at (lanes (run count)) (fixed (start_ends Max) count) f no_ends) (sym (open_is ∙ ap (λ b. cond b (start_ends Min) no_ends) is))
+            ∙ ap (three_at (lanes (run count)) (fixed (start_ends Max) count) (fixed (start_ends Min) count))
             (sym (none_total passes (λ k. some_lanes (h k)) (λ k. some_lanes (lanes (run k))) (ap some_lanes run_begun ∙ none_is n) count some_more
-            (λ k. folded_by o (name_ends (h k) R) (found_ends true true (v k) w)) count (omega arith) is))
+            (λ k. folded_by o (name_ends (h k) R) (found_ends true Max (v k) w)) count (omega arith) is))
 
     pub closed_is : IsPacked n (lanes (closed (run count))) × (unpacked (lanes (closed (run count))) ≡ gives m l twin count v (λ k. unpacked (h k)) w)
     closed_is =
@@ -358,9 +358,9 @@ pub spread_gift : {X : Type 0} (both : X → X → X) (nothing : X) (lanes : X �
     (wide : is_wide n ≡ true) (s : Sides) (replaced : X → Name → Ends → X)
     (replaced_lanes : (h : X) (k : Name) (e : Ends) → lanes (replaced h k e) ≡ with_ends_in (lanes h) (place n k) (kept_ends s e))
     (alone : (s ≡ BothEnds) ⊎ (is_wide n ≡ false)) (m : Move) (greatest : Bool) (l : Letter) (twin : Bool) (v : ℕ → ℤ) (before : List X)
-    (w : ℤ) (count : ℕ) → m.to ≡ emission true (pair_op greatest) true → IsSmall w → ArePacked lanes nothing n count before →
+    (w : ℤ) (count : ℕ) → m.to ≡ emission true (pair_op greatest) Max → IsSmall w → ArePacked lanes nothing n count before →
     ((i : ℕ) → i < count → IsSmall (v i)) →
-    ((i : ℕ) → i < count → some_lanes (lanes (get_or before i nothing)) ≡ true → IsBegun s true true (as_read s (lanes (get_or before i nothing)))) →
+    ((i : ℕ) → i < count → some_lanes (lanes (get_or before i nothing)) ≡ true → IsBegun s true Max (as_read s (lanes (get_or before i nothing)))) →
     (closed : X → X) → ((t : X) →
     closed t ≡ cond (some_lanes (lanes t)) (spread_hull lanes s replaced greatest (top_of lanes s nothing before l twin count v w) t) t) →
     IsPacked n (lanes (closed (met_hull both nothing l twin (λ h v. h) before v w)))

@@ -39,23 +39,25 @@ reach_by Greater true w = bounds w (pos 9223372036854775807)
 abbrev pub pair_op : Bool → Op
 pair_op greatest = if greatest then Max else Min
 
--- the word that D begins with, and its ends
-abbrev pub start_atom : Bool → Atom
-start_atom greatest = if greatest then LowAtom else HighAtom
+-- the word that D begins with where it takes in cells by an operator, and its ends
+abbrev pub start_atom : Op → Atom
+start_atom Add = Zero
+start_atom Max = LowAtom
+start_atom Min = HighAtom
 
-abbrev pub start_ends : Bool → Ends
-start_ends greatest =
-    if greatest then ends (pos 9223372036854775807) (negsuc 9223372036854775806)
-    else ends (negsuc 9223372036854775806) (pos 9223372036854775807)
+abbrev pub start_ends : Op → Ends
+start_ends Add = ends (pos 0) (pos 0)
+start_ends Max = ends (pos 9223372036854775807) (negsuc 9223372036854775806)
+start_ends Min = ends (negsuc 9223372036854775806) (pos 9223372036854775807)
 
 -- a register, joined with the cell and the next one; and what D gives so, in a wide automaton less what F gives
 abbrev pub pair_cells : Op → Atom → Formula
 pair_cells o w = Join (Fold o) (Join (Fold o) (Leaf w) (Leaf This)) (Leaf Next)
 
-abbrev pub pair_found : Bool → Bool → Formula
-pair_found wide greatest =
-    if wide then Join Sub (pair_cells (pair_op greatest) AtomD) (pair_cells Min AtomF)
-    else pair_cells (pair_op greatest) AtomD
+abbrev pub pair_found : Bool → Op → Formula
+pair_found wide cells =
+    if wide then Join Sub (pair_cells cells AtomD) (pair_cells Min AtomF)
+    else pair_cells cells AtomD
 
 -- the words of E and F: a narrow automaton hasn't them
 abbrev pub held_atom : Bool → Atom
@@ -65,16 +67,22 @@ abbrev pub open_atom : Bool → Atom
 open_atom wide = if wide then HighAtom else Zero
 
 -- the expressions of an emission: R takes in what is found, and D and F begin anew
-abbrev pub emission : Bool → Op → Bool → EachOf Formula
-emission wide o greatest =
-    each (Leaf AtomC) (Leaf (held_atom wide)) (Leaf (start_atom greatest)) (Leaf (open_atom wide))
-    (Join (Fold o) (Leaf AtomR) (pair_found wide greatest))
+abbrev pub emission : Bool → Op → Op → EachOf Formula
+emission wide o cells =
+    each (Leaf AtomC) (Leaf (held_atom wide)) (Leaf (start_atom cells)) (Leaf (open_atom wide))
+    (Join (Fold o) (Leaf AtomR) (pair_found wide cells))
+
+-- what an operator makes of a cell and the next one
+abbrev pub both_cells : Op → ℤ → ℤ → ℤ
+both_cells Add x y = x +ℤ y
+both_cells Max x y = int_max x y
+both_cells Min x y = int_min x y
 
 -- what is found where D and F hold no cell yet
-abbrev pub found_ends : Bool → Bool → ℤ → ℤ → Ends
-found_ends wide greatest x y =
+abbrev pub found_ends : Bool → Op → ℤ → ℤ → Ends
+found_ends wide cells x y =
     if wide then ends (int_min x y -ℤ int_max x y) (int_max x y -ℤ int_min x y)
-    else number_ends (if greatest then int_max x y else int_min x y)
+    else number_ends (both_cells cells x y)
 
 -- the greatest of a cell and the next one, or the least, where they compare as a letter says
 abbrev pub found_atom : Letter → Bool → Atom
@@ -83,13 +91,13 @@ found_atom Equal greatest = This
 found_atom Greater greatest = if greatest then This else Next
 
 -- D and F hold no cell yet, as far as their ends are kept
-abbrev pub IsBegun : Sides → Bool → Bool → List ℤ → Type 0
-IsBegun s wide greatest xs =
-    (name_ends xs D ≡ read_ends s (start_ends greatest)) × (name_ends xs F ≡ beside wide (start_ends false))
+abbrev pub IsBegun : Sides → Bool → Op → List ℤ → Type 0
+IsBegun s wide cells xs =
+    (name_ends xs D ≡ read_ends s (start_ends cells)) × (name_ends xs F ≡ beside wide (start_ends Min))
 
 -- an emission serves lanes as they are read: it is the move, sums stay small, and D and F hold no cell yet
 pub record IsEmitted (s : Sides) (wide : Bool) (k : Emission) (xs : List ℤ) : Type 0 where
-  pub made : (move_of k.turn.now).to ≡ emission wide k.ranges k.greatest
-  pub one : wide ≡ true → k.greatest ≡ true
+  pub made : (move_of k.turn.now).to ≡ emission wide k.ranges k.cells
+  pub one : wide ≡ true → k.cells ≡ Max
   pub small : k.ranges ≡ Add → AreWithin 1 (name_ends xs R)
-  pub begun : IsBegun s wide k.greatest xs
+  pub begun : IsBegun s wide k.cells xs

@@ -2,6 +2,7 @@
 use Rattle.std.specs.Prelude.{◌≡◌, ◌≤◌, ◌≤ℤ◌, ◌+ℤ◌, ◌-ℤ◌, ℕ, ℤ, pos, Bool, true, false, cond, List, get_or}
 use Rattle.std.specs.Int.{int_max, int_min}
 use Rattle.ts_base.specs.declared.letter.Letter.{Letter}
+use Rattle.ts_base.specs.declared.op.Op.TheVariants.{Max, Min}
 use Rattle.ts_hull.specs.Sweeps.{compares}
 use Rattle.ts_sweep.specs.declared.packed.Ends.{Ends}
 use Rattle.ts_sweep.specs.declared.packed.Name.{Name}
@@ -53,7 +54,7 @@ top_of lanes s none hulls l twin n v w above bounded =
 abbrev pub spread_hull : {X : Type 0} → (X → List ℤ) → Sides → (X → Name → Ends → X) → Bool → (Bool → Bool → ℤ) → X → X
 spread_hull lanes s replaced greatest tops h =
     replaced_all replaced h (ends_by true (name_ends (as_read s (lanes h)) C) (name_ends (as_read s (lanes h)) E)
-    (start_ends true) (start_ends false) (spread_ends greatest tops (name_ends (as_read s (lanes h)) R)))
+    (start_ends Max) (start_ends Min) (spread_ends greatest tops (name_ends (as_read s (lanes h)) R)))
 
 -- how far w lies beyond the first of n values from a on, or below their end
 abbrev pub beyond : Bool → ℤ → ℕ → ℤ → ℤ

@@ -1,15 +1,15 @@
 //! Moves as loops over pairs of values take them in: what becomes of each register between two values.
 
-ghost use Rattle.std.specs.Prelude.{◌≡◌, ◌≤◌, ◌<◌, ◌-ℤ◌, ℕ, false, get_or, length, true};
+ghost use Rattle.std.specs.Prelude.{◌≡◌, ◌≤◌, ◌<◌, ◌+ℤ◌, ◌-ℤ◌, ℕ, get_or, length, true};
 ghost use Rattle.ts_automaton.specs.Body.{move_of};
 ghost use Rattle.ts_automaton.specs.Formula.{Join, Leaf, formula};
 ghost use Rattle.ts_automaton.specs.declared.expr.Atom.TheVariants.{R};
 ghost use Rattle.ts_automaton.specs.declared.expr.Operator.TheVariants.{Fold};
-ghost use Rattle.ts_base.specs.declared.op.Op.TheVariants.{Add};
+ghost use Rattle.ts_base.specs.declared.op.Op.TheVariants.{Add, Max, Min};
 ghost use Rattle.ts_sweep.specs.Lanes.{some_lanes};
 ghost use Rattle.ts_sweep.specs.Moves.{beside, of_name};
 ghost use Rattle.ts_sweep.specs.declared.packed.Name.TheVariants.{R as NameR};
-ghost use Rattle.ts_sweep.specs.Packed.{AreWithin, ends, is_wide, name_ends};
+ghost use Rattle.ts_sweep.specs.Packed.{AreWithin, ends, is_wide, name_ends, number_ends};
 ghost use Rattle.ts_sweep.specs.PairMoves.{IsBegun, found_ends, pair_found, start_ends};
 ghost use Rattle.ts_sweep.specs.Sides.{as_read, kept_ends};
 ghost use Rattle.ts_sweep.specs.Small.{IsSmall};
@@ -52,13 +52,13 @@ pub struct AnyMove<'a> {
     pub turn: &'a Turn,
 }
 
-/// A move that joins R with the greatest of the cell and the next one, or with the least, in a wide hull with their
-/// difference, and resets D. It serves hulls whose D holds no cell yet.
+/// A move that joins R with the sum of the cell and the next one, or with the greatest or the least of both, in a wide
+/// hull with their difference, and resets D. It serves hulls whose D holds no cell yet.
 #[derive(Clone, Copy)]
 pub struct Emission<'a> {
     pub turn: &'a Turn,
     pub ranges: Op,
-    pub greatest: bool,
+    pub cells: Op,
 }
 
 /// The expression of a register in a move.
@@ -88,21 +88,21 @@ impl<'a> PairMove for AnyMove<'a> {
     }
 }
 
-/// The ends of D where it holds no cell yet: of the greatest cell so far or of the least.
+/// The ends of D where it holds no cell yet: of the sum of the cells so far, of the greatest, or of the least.
 #[inline(always)]
-pub fn start_ends(greatest: bool) -> Ends
-    ensures { result ≡ start_ends greatest }
+pub fn start_ends(cells: Op) -> Ends
+    ensures { result ≡ start_ends cells }
 {
-    if greatest {
-        Ends {
+    match cells {
+        Op::Add => Ends { below: 0, above: 0 },
+        Op::Max => Ends {
             below: i64::MAX,
             above: -i64::MAX,
-        }
-    } else {
-        Ends {
+        },
+        Op::Min => Ends {
             below: -i64::MAX,
             above: i64::MAX,
-        }
+        },
     }
 }
 
@@ -119,31 +119,47 @@ fn apart(most: i64, least: i64) -> Ends
     }
 }
 
-/// The ends of what two cells give.
+/// The ends of the sum of two cells.
 #[inline(always)]
-fn found_ends<H: Packed>(greatest: bool, x: i64, y: i64) -> Ends
+fn sum_ends(x: i64, y: i64) -> Ends
     requires this { IsSmall x }
     requires next { IsSmall y }
-    ensures { result ≡ found_ends (is_wide H.count) greatest x y }
+    ensures { result ≡ number_ends (x +ℤ y) }
+{
+    let all = x + y;
+    Ends {
+        below: -all,
+        above: all,
+    }
+}
+
+/// The ends of what two cells give.
+#[inline(always)]
+fn found_ends<H: Packed>(cells: Op, x: i64, y: i64) -> Ends
+    requires this { IsSmall x }
+    requires next { IsSmall y }
+    ensures { result ≡ found_ends (is_wide H.count) cells x y }
 {
     let most = x.max(y);
     let least = x.min(y);
     if H::is_wide() {
         apart(most, least)
-    } else if greatest {
-        number(most)
     } else {
-        number(least)
+        match cells {
+            Op::Add => sum_ends(x, y),
+            Op::Max => number(most),
+            Op::Min => number(least),
+        }
     }
 }
 
 /// The ends of F where it holds no cell yet; in a narrow hull, which has no lanes for it, those of 0.
 #[inline(always)]
 fn open_ends<H: Packed>() -> Ends
-    ensures { result ≡ beside (is_wide H.count) (start_ends false) }
+    ensures { result ≡ beside (is_wide H.count) (start_ends Min) }
 {
     if H::is_wide() {
-        start_ends(false)
+        start_ends(Op::Min)
     } else {
         Ends { below: 0, above: 0 }
     }
@@ -178,17 +194,17 @@ fn plain_sum(a: Ends, b: Ends) -> Ends
 
 /// The ends of R, joined with what is found.
 #[inline(always)]
-fn joined_ends<H: Packed>(ranges: Op, greatest: bool, h: H, x: i64, y: i64) -> Ends
+fn joined_ends<H: Packed>(ranges: Op, cells: Op, h: H, x: i64, y: i64) -> Ends
     requires registers { 6 ≤ H.count }
     requires small { ranges ≡ Add → AreWithin 1 (name_ends (as_read H.sides (H.lanes h)) NameR) }
-    requires begun { IsBegun H.sides (is_wide H.count) greatest (as_read H.sides (H.lanes h)) }
-    requires one { is_wide H.count ≡ true → greatest ≡ true }
+    requires begun { IsBegun H.sides (is_wide H.count) cells (as_read H.sides (H.lanes h)) }
+    requires one { is_wide H.count ≡ true → cells ≡ Max }
     requires this { IsSmall x }
     requires next { IsSmall y }
     ensures { kept_ends H.sides result ≡ kept_ends H.sides (tree_value
-        (Join (Fold ranges) (Leaf R) (pair_found (is_wide H.count) greatest)) (as_read H.sides (H.lanes h)) x y) }
+        (Join (Fold ranges) (Leaf R) (pair_found (is_wide H.count) cells)) (as_read H.sides (H.lanes h)) x y) }
 {
-    let found = found_ends::<H>(greatest, x, y);
+    let found = found_ends::<H>(cells, x, y);
     folded_small(ranges, h.ends(Name::R), found)
 }
 
@@ -206,45 +222,45 @@ impl<'a> PairMove for Emission<'a> {
         match register {
             Name::C => h.ends(Name::C),
             Name::E => h.ends(Name::E),
-            Name::D => start_ends(self.greatest),
+            Name::D => start_ends(self.cells),
             Name::F => open_ends::<H>(),
-            Name::R => joined_ends::<H>(self.ranges, self.greatest, h, x, y),
+            Name::R => joined_ends::<H>(self.ranges, self.cells, h, x, y),
         }
     }
 }
 
 /// Whether D holds no cell yet, and F neither, as far as the hull has them.
 #[inline(always)]
-fn is_begun<H: Packed>(h: H, greatest: bool) -> bool
+fn is_begun<H: Packed>(h: H, cells: Op) -> bool
     requires registers { 6 ≤ H.count }
     ensures { result ≡ true → some_lanes (H.lanes h) ≡ true →
-        IsBegun H.sides (is_wide H.count) greatest (as_read H.sides (H.lanes h)) }
+        IsBegun H.sides (is_wide H.count) cells (as_read H.sides (H.lanes h)) }
 {
     !h.is_some()
-        || h.ends(Name::D) == H::read(start_ends(greatest)) && h.ends(Name::F) == open_ends::<H>()
+        || h.ends(Name::D) == H::read(start_ends(cells)) && h.ends(Name::F) == open_ends::<H>()
 }
 
 /// Whether `others` holds, and D and F hold no cell yet in a hull.
 #[inline(always)]
-fn with_begun<H: Packed>(others: bool, h: H, greatest: bool) -> bool
+fn with_begun<H: Packed>(others: bool, h: H, cells: Op) -> bool
     requires registers { 6 ≤ H.count }
     ensures others { result ≡ true → others ≡ true }
     ensures begun { result ≡ true → some_lanes (H.lanes h) ≡ true →
-        IsBegun H.sides (is_wide H.count) greatest (as_read H.sides (H.lanes h)) }
+        IsBegun H.sides (is_wide H.count) cells (as_read H.sides (H.lanes h)) }
 {
-    others && is_begun(h, greatest)
+    others && is_begun(h, cells)
 }
 
 /// Whether D and F hold no cell yet in any hull of a column.
 #[inline(never)]
-pub fn are_begun<H: Packed>(hulls: &[H], greatest: bool) -> bool
+pub fn are_begun<H: Packed>(hulls: &[H], cells: Op) -> bool
     requires registers { 6 ≤ H.count }
     ensures { result ≡ true → (i : ℕ) → i < length hulls.now → some_lanes (H.lanes (get_or hulls.now i H.none)) ≡ true →
-        IsBegun H.sides (is_wide H.count) greatest (as_read H.sides (H.lanes (get_or hulls.now i H.none))) }
+        IsBegun H.sides (is_wide H.count) cells (as_read H.sides (H.lanes (get_or hulls.now i H.none))) }
 {
     let mut all = true;
     for i in 0..hulls.len() {
-        all = with_begun::<H>(all, hull_of(hulls, i), greatest);
+        all = with_begun::<H>(all, hull_of(hulls, i), cells);
     }
     all
 }

@@ -9,6 +9,7 @@ ghost use Rattle.std.specs.Int.{int_max, int_min};
 ghost use Rattle.ts_automaton.specs.Body.{Move};
 ghost use Rattle.ts_base.specs.declared.letter.Letter.TheVariants.{Equal, Greater, Less};
 ghost use Rattle.ts_base.specs.Limits.{IsCellValue};
+ghost use Rattle.ts_base.specs.declared.op.Op.TheVariants.{Max};
 ghost use Rattle.ts_hull.specs.Sweeps.{compares};
 ghost use Rattle.ts_sweep.specs.Columns.{IsMoved};
 ghost use Rattle.ts_sweep.specs.Lanes.{some_lanes};
@@ -38,7 +39,7 @@ use crate::source::Fronts;
 use crate::steps::step_place;
 use crate::take::take;
 use crate::values::{Run, Values};
-use ts_base::Letter;
+use ts_base::{Letter, Op};
 
 /// A move that joins R with the difference of both cells, by the greatest or else by the least, and resets D and F: the
 /// letter that it is made on, and the values and hulls that it is made from.
@@ -400,8 +401,8 @@ fn spread_hull<H: Packed, V: Values>(
 {
     let c = h.ends(Name::C);
     let e = h.ends(Name::E);
-    let d = start_ends(true);
-    let f = start_ends(false);
+    let d = start_ends(Op::Max);
+    let f = start_ends(Op::Min);
     let held = h.ends(Name::R);
     let r = spread_ends::<H, V>(greatest, letter, twin, values, before, held, w);
     h.with(Name::C, c)
@@ -477,11 +478,11 @@ pub fn take_spread<H: Packed, V: Values, W: Values>(
     requires next_ok { W.ok next_values }
     requires packed { ArePacked H.lanes H.none H.count (V.len values) before.now }
     requires begun { (i : ℕ) → i < V.len values → some_lanes (H.lanes (get_or before.now i H.none)) ≡ true →
-        IsBegun H.sides true true (as_read H.sides (H.lanes (get_or before.now i H.none))) }
+        IsBegun H.sides true Max (as_read H.sides (H.lanes (get_or before.now i H.none))) }
     requires next_packed { ArePacked H.lanes H.none H.count (W.len next_values) next.old }
     requires alone { letter ≡ Equal → twin ≡ false }
     ensures packed { ArePacked H.lanes H.none H.count (W.len next_values) next.new }
-    ensures taken { (m : Move) → m.to ≡ emission true (pair_op greatest) true →
+    ensures taken { (m : Move) → m.to ≡ emission true (pair_op greatest) Max →
         IsMoved H.sides H.lanes H.none m letter twin (V.len values) (V.value values) before.now
         (W.len next_values) (W.value next_values) next.old next.new }
 {

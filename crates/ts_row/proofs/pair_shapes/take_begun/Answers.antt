@@ -11,4 +11,4 @@ spread-requires g c =
 pub returns-in-Some-clause-moved : goal.returns-in-Some-clause-moved
 returns-in-Some-clause-moved g c =
     c.spread.ensures.moved (move_of c.args.by.turn.now)
-    (wide_emission _ _ _ c.in-Some.greatest _ c.requires.made c.in-Some.ensures.0 (c.requires.one c.in-Some.ensures.0) c.in-Some.ensures.1)
+    (wide_emission _ _ c.in-Some.greatest _ _ c.requires.made c.in-Some.ensures.0 (c.requires.one c.in-Some.ensures.0) c.in-Some.ensures.1)

@@ -11,9 +11,9 @@ loop-i-init g c = λ e k lt. absurd (omega (arith, lt))
 
 pub loop-i-preserved : goal.loop-i-preserved
 loop-i-preserved g c = λ more. so_far (λ k. some_lanes (g.H.Packed.lanes (get_or c.args.hulls.now k g.H.Hull.none)) ≡ true →
-    IsBegun g.H.Packed.sides (is_wide g.H.Packed.count) c.args.greatest
+    IsBegun g.H.Packed.sides (is_wide g.H.Packed.count) c.args.cells
     (as_read g.H.Packed.sides (g.H.Packed.lanes (get_or c.args.hulls.now k g.H.Hull.none)))) c.loop-i.i
     (c.loop-i.invariant (c.with_begun-all.ensures.others more))
     (subst (λ h. some_lanes (g.H.Packed.lanes h) ≡ true →
-    IsBegun g.H.Packed.sides (is_wide g.H.Packed.count) c.args.greatest (as_read g.H.Packed.sides (g.H.Packed.lanes h))) c.hull_of.ensures
+    IsBegun g.H.Packed.sides (is_wide g.H.Packed.count) c.args.cells (as_read g.H.Packed.sides (g.H.Packed.lanes h))) c.hull_of.ensures
     (c.with_begun-all.ensures.begun more))

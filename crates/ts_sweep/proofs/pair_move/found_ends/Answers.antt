@@ -32,4 +32,4 @@ returns-then-is_wide g c =
     as_both_passed (λ a b. c.apart.result ≡ ends (b -ℤ a) (a -ℤ b)) c.max-most.result c.min-least.result most_is least_is c.apart.ensures
     ∙ ap (λ a. ends (c.min-least.result -ℤ a) (a -ℤ c.min-least.result)) most
     ∙ ap (λ b. ends (b -ℤ int_max x y) (int_max x y -ℤ b)) least
-    ∙ ap (λ wide. found_ends wide c.args.greatest x y) (sym c.if-is_wide.true ∙ c.is_wide.ensures)
+    ∙ ap (λ wide. found_ends wide c.args.cells x y) (sym c.if-is_wide.true ∙ c.is_wide.ensures)

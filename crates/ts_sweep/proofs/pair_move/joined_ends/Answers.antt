@@ -15,9 +15,9 @@ folded_small-requires-clause-first g c = λ add. subst (AreWithin 1) (sym c.ends
 pub folded_small-requires-clause-second : goal.folded_small-requires-clause-second
 folded_small-requires-clause-second g c =
     subst (AreWithin 1)
-    (sym (as_both_passed (λ x y. c.found_ends-found.result ≡ found_ends (is_wide g.H.Packed.count) c.args.greatest x y) c.args.x c.args.y
+    (sym (as_both_passed (λ x y. c.found_ends-found.result ≡ found_ends (is_wide g.H.Packed.count) c.args.cells x y) c.args.x c.args.y
     c.requires.this c.requires.next c.found_ends-found.ensures))
-    (found_within (is_wide g.H.Packed.count) c.args.greatest c.args.x c.args.y c.requires.this c.requires.next)
+    (found_within (is_wide g.H.Packed.count) c.args.cells c.args.x c.args.y c.requires.this c.requires.next)
 
 pub returns : goal.returns
 returns g c =
@@ -25,8 +25,8 @@ returns g c =
     let wide = is_wide g.H.Packed.count in
     let xs = as_read s (g.H.Packed.lanes c.args.h) in
     ap (kept_ends s) (c.folded_small.ensures
-    ∙ ap (folded_by c.args.ranges c.ends.result) (as_both_passed (λ x y. c.found_ends-found.result ≡ found_ends wide c.args.greatest x y) c.args.x c.args.y
+    ∙ ap (folded_by c.args.ranges c.ends.result) (as_both_passed (λ x y. c.found_ends-found.result ≡ found_ends wide c.args.cells x y) c.args.x c.args.y
     c.requires.this c.requires.next c.found_ends-found.ensures)
-    ∙ ap (λ r. folded_by c.args.ranges r (found_ends wide c.args.greatest c.args.x c.args.y)) c.ends.ensures.value)
-    ∙ kept_joined s c.args.ranges (name_ends xs R) (found_ends wide c.args.greatest c.args.x c.args.y) _
-    (found_kept s wide c.args.greatest xs c.args.x c.args.y g.met.H.Packed.alone c.requires.one c.requires.begun c.requires.this c.requires.next)
+    ∙ ap (λ r. folded_by c.args.ranges r (found_ends wide c.args.cells c.args.x c.args.y)) c.ends.ensures.value)
+    ∙ kept_joined s c.args.ranges (name_ends xs R) (found_ends wide c.args.cells c.args.x c.args.y) _
+    (found_kept s wide c.args.cells xs c.args.x c.args.y g.met.H.Packed.alone c.requires.one c.requires.begun c.requires.this c.requires.next)

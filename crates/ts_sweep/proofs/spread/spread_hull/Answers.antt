@@ -1,4 +1,5 @@
-use Rattle.std.proofs.Common.{◌≡◌, Bool, true, false, ℤ, ap, ◌∙◌}
+use Rattle.std.proofs.Common.{◌≡◌, Bool, ℤ, ap, ◌∙◌}
+use Rattle.ts_base.specs.declared.op.Op.TheVariants.{Max, Min}
 use Rattle.ts_automaton.specs.Registers.{EachOf, each}
 use Rattle.ts_sweep.specs.declared.packed.Ends.{Ends}
 use Rattle.ts_sweep.specs.declared.packed.Name.TheVariants.{C, E, D, F, R}
@@ -21,7 +22,7 @@ returns g c =
     (c.with-3.ensures ∙ ap (λ z. replaced z D e.d) (c.with-2.ensures ∙ ap (λ z. replaced z E e.e) c.with.ensures))) in
     is
     ∙ same_replaced replaced c.args.h e
-    (each (name_ends xs C) (name_ends xs E) (start_ends true) (start_ends false) (spread_ends c.args.greatest (tops c.args.w) (name_ends xs R)))
+    (each (name_ends xs C) (name_ends xs E) (start_ends Max) (start_ends Min) (spread_ends c.args.greatest (tops c.args.w) (name_ends xs R)))
     (same_each c.ends-c.ensures.value c.ends-e.ensures.value c.start_ends-d.ensures c.start_ends-f.ensures
     (as_passed (λ w. c.spread_ends-r.result ≡ spread_ends c.args.greatest (tops w) c.ends-held.result) c.args.w c.requires.next c.spread_ends-r.ensures
     ∙ ap (spread_ends c.args.greatest (tops c.args.w)) c.ends-held.ensures.value))
