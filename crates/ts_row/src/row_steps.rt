@@ -102,20 +102,27 @@ fn take_tree<const N: usize>(m: Planned<'_>, t: &Between<'_, N>, next: &mut [Pac
     }
 }
 
-/// Takes a move into a column that no shape takes in: by the sweep of its expressions, or else by pairs.
+/// Takes a move into a column that no shape takes in: by the sweep of its expressions, or else by pairs. The parts of a
+/// planned move are arguments by themselves, so that a caller that doesn't come here needs no memory for it.
 #[inline(never)]
-fn take_other<const N: usize>(m: Planned<'_>, t: &Between<'_, N>, next: &mut [PackedHull<N>])
+fn take_other<const N: usize>(
+    turn: &Turn,
+    shape: &Shape,
+    on: On,
+    t: &Between<'_, N>,
+    next: &mut [PackedHull<N>],
+)
     requires covered { IsCovered N t.now }
-    requires width { rests is_zero (has_wide N) (move_of m.turn.now).to ≡ true }
-    requires suits { IsMoveFor (sides N) (move_of m.turn.now) }
+    requires width { rests is_zero (has_wide N) (move_of turn.now).to ≡ true }
+    requires suits { IsMoveFor (sides N) (move_of turn.now) }
     requires next_packed { IsColumn N (count_in t.now.next_values.now) next.old }
     ensures packed { IsColumn N (count_in t.now.next_values.now) next.new }
-    ensures moved { HasMoved N t.now m.entry.on (move_of m.entry.turn.now) next.old next.new }
+    ensures moved { HasMoved N t.now on (move_of turn.now) next.old next.new }
 {
-    if take_tree(m, t, next) {
+    if take_tree(Planned { turn, shape, on }, t, next) {
         return;
     }
-    take_by_pairs(m.turn, m.on, t, next);
+    take_by_pairs(turn, on, t, next);
 }
 
 /// Takes a move into a column: by the sweep of its shape, or else in another way.
@@ -132,7 +139,7 @@ fn take_turn<const N: usize>(m: Planned<'_>, t: &Between<'_, N>, next: &mut [Pac
     if take_shape(*m.shape, m.on, t, next) {
         return;
     }
-    take_other(m, t, next);
+    take_other(m.turn, m.shape, m.on, t, next);
 }
 
 /// Takes a move into the column of the state that it leads to, of columns that lie one after another, each with room
