@@ -284,10 +284,11 @@ fn take_state<const N: usize>(
         (seen_gives N a.now q (count_in values.now) (value_in values.now)
         (hull_at (lanes_of N) (nothing N) column.now)) next.old next.new }
 {
-    let cover = cover_of::<N, Dense>(Dense, column, values.values.len());
-    if !cover.some {
+    let covered = cover_of::<N, Dense>(Dense, column, values.values.len());
+    if !covered.some {
         return;
     }
+    let cover = covered.cover;
     let t = Between {
         values,
         before: column,

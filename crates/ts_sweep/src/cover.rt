@@ -21,15 +21,21 @@ use crate::column::Column;
 use crate::hull::Hull;
 use crate::packed::{Ends, LOWER, Name, Packed, PackedHull, UPPER};
 
-/// The ends of each register that no hull of a column goes beyond, and whether registers lie in any of them.
+/// The ends of each register that no hull of a column goes beyond.
 #[derive(Clone, Copy)]
 pub struct Cover {
-    pub some: bool,
     pub c: Ends,
     pub e: Ends,
     pub d: Ends,
     pub f: Ends,
     pub r: Ends,
+}
+
+/// The cover of a column, and whether registers lie in any of its hulls.
+#[derive(Clone, Copy)]
+pub struct Covered {
+    pub some: bool,
+    pub cover: Cover,
 }
 
 impl Cover {
@@ -43,7 +49,6 @@ impl Cover {
             above: i64::MAX,
         };
         Cover {
-            some: true,
             c: e,
             e,
             d: e,
@@ -130,7 +135,7 @@ pub fn cover_of<const N: usize, C: Column<PackedHull<N>>>(
     from: C,
     row: &[C::Item],
     count: usize,
-) -> Cover
+) -> Covered
     requires registers { 6 ≤ lane_count N }
     requires lanes { N ≤ 64 }
     requires whole { C.whole from row.now }
@@ -140,7 +145,7 @@ pub fn cover_of<const N: usize, C: Column<PackedHull<N>>>(
         (lanes_in N (join_of_all N (λ i. get_or (C.hulls from row.now) i (nothing_of N)) count).at) }
     ensures bounds { ((i : ℕ) → i < count →
         IsPacked (lane_count N) (lanes_in N (get_or (C.hulls from row.now) i (nothing_of N)).at)) →
-        IsCoverOf (sides N) (λ h. lanes_in N h.at) (nothing_of N) result count (C.hulls from row.now) }
+        IsCoverOf (sides N) (λ h. lanes_in N h.at) (nothing_of N) result.cover count (C.hulls from row.now) }
 {
     let mut all = PackedHull::<N>::nothing();
     let mut turned = PackedHull::<N>::nothing();
@@ -149,12 +154,14 @@ pub fn cover_of<const N: usize, C: Column<PackedHull<N>>>(
         turned = with_turned(turned, &h);
         all = all.joined(h);
     }
-    Cover {
+    Covered {
         some: all.is_some(),
-        c: bound(&all, &turned, Name::C),
-        e: bound(&all, &turned, Name::E),
-        d: bound(&all, &turned, Name::D),
-        f: bound(&all, &turned, Name::F),
-        r: bound(&all, &turned, Name::R),
+        cover: Cover {
+            c: bound(&all, &turned, Name::C),
+            e: bound(&all, &turned, Name::E),
+            d: bound(&all, &turned, Name::D),
+            f: bound(&all, &turned, Name::F),
+            r: bound(&all, &turned, Name::R),
+        },
     }
 }

@@ -39,7 +39,6 @@ returns-clause-bounds g c =
     let m = lane_count n in
     let f : ℕ → PackedHull n = λ i. get_or (g.C.Column.hulls c.args.from c.args.row.now) i (nothing_of n) in
     let made : Cover = record {
-      some = c.is_some.result;
       c = c.bound.result;
       e = c.bound-2.result;
       d = c.bound-3.result;
