@@ -1,6 +1,6 @@
 -- What is known of the hulls of a machine on a box: of the cells that it looks at, the rows of the first ones forward,
 -- of the last ones backward.
-use Rattle.std.specs.Prelude.{◌≡◌, ◌<◌, ◌≤◌, ℕ, ◌-◌, List, Contains, length, Option, None, Some}
+use Rattle.std.specs.Prelude.{◌≡◌, ◌<◌, ◌≤◌, ℕ, ◌-◌, List, [], Contains, length, Option, None, Some}
 use Rattle.ts_base.specs.Windows.{looked_at}
 use Rattle.ts_bound.specs.Looks.{place_in}
 use Rattle.ts_bound.specs.Laws.{AreAutomata}
@@ -16,7 +16,7 @@ use Rattle.ts_bound.specs.BoxRows.{AreBehind, AreFirst, AreKeptBehind, GoOnBehin
 use Rattle.ts_bound.specs.Reading.{in_order}
 use Rattle.ts_bound.specs.declared.planned.Planned.{Planned}
 use Rattle.ts_sweep.specs.Sides.{Sides}
-use Rattle.ts_bound.specs.RowStacks.{AreKept, Kept, Rows, Laid, GoOn, IsPlanned, sight}
+use Rattle.ts_bound.specs.RowStacks.{AreKept, Kept, Rows, Laid, GoOn, IsPlanned, Stack, no_rows, sight}
 use Rattle.ts_filter.specs.Boxes.{Box}
 use Rattle.ts_filter.specs.Drops.{IsFirstOf}
 use Rattle.ts_filter.specs.TermDrops.{IsQuiet, IsTermDrop}
@@ -52,6 +52,12 @@ pub record AreTables (a : Automata) (ahead behind : Planned) (joints : Option Jo
   pub reverse : IsPlannedBack a.pair behind
   pub form : behind.form ≡ ahead.form
   pub meets : HasJoints a.pair joints
+
+-- no rows are known, nor others kept, and no requirements by which no drop is possible
+pub record AreEmpty (ahead behind : Stack) (quiet : List Require) : Type 0 where
+  pub none_ahead : ahead ≡ no_rows ahead.planned
+  pub none_behind : behind ≡ no_rows behind.planned
+  pub none_quiet : quiet ≡ []
 
 -- the rows of a machine are rows of these cells, and the requirements that are kept with them drop no value there
 pub record AreRowsOf (cells : Box) (t : KnownRows) : Type 0 where

@@ -46,11 +46,13 @@ use ts_model::Require;
 /// backward ones from the last one back; those that are kept; and requirements by which no drop was found at a cell
 /// that is looked at, nor is any there before one of these cells changes. At each cell that was asked about, the value
 /// that showed last that some number does what is asked is `likely` to show it again. The rows have the one end of each
-/// register that is enough for what was asked, once anything was `asked`, or both ends. `questions` counts for tests.
+/// register that is enough for what was asked, once anything was `asked`, or both ends. Tables that are `empty` have no
+/// rows and no such requirements, so that they needn't be told of a change. `questions` counts for tests.
 #[derive(Drop)]
 pub(crate) struct BoxTables<'a> {
     machine: HeldMachine<'a>,
     asked: bool,
+    empty: bool,
     ahead: RowStack,
     behind: RowStack,
     joints: Option<Joints>,
@@ -61,10 +63,11 @@ pub(crate) struct BoxTables<'a> {
 
 impl<'a> Model for BoxTables<'a> {
     ghost use Rattle.std.specs.Coded.{codes};
+    ghost use Rattle.std.specs.Prelude.{IsTrue};
     ghost use Rattle.ts_automaton.specs.Codes.{formula_code};
     ghost use Rattle.ts_bound.specs.TermSpans.{automata_of};
     ghost use Rattle.ts_filter.specs.HeldMachine.{machine_in};
-    ghost use Rattle.ts_filter.specs.KnownRows.{AreTables, KnownRows};
+    ghost use Rattle.ts_filter.specs.KnownRows.{AreEmpty, AreTables, KnownRows};
 
     ghost Value = { KnownRows };
 
@@ -82,8 +85,8 @@ impl<'a> Model for BoxTables<'a> {
       quiet = t.quiet.items;
     } };
 
-    ghost invariant = { λ t. AreTables (automata_of (machine_in t.machine)) t.ahead.planned t.behind.planned
-        t.joints };
+    ghost invariant = { λ t. AreTables (automata_of (machine_in t.machine)) t.ahead.planned t.behind.planned t.joints
+        × (IsTrue t.empty → AreEmpty t.ahead t.behind t.quiet.items) };
 }
 
 impl<'a> BoxTables<'a> {
@@ -102,6 +105,7 @@ impl<'a> BoxTables<'a> {
         BoxTables {
             machine,
             asked: false,
+            empty: true,
             ahead,
             behind,
             joints,
@@ -118,6 +122,9 @@ impl<'a> BoxTables<'a> {
         ensures machine { self.new.machine ≡ self.old.machine }
         ensures known { AreKnown seen.now self.old → AreKnown cells.now.present self.new }
     {
+        if self.empty {
+            return;
+        }
         let (first, last) = self.ends(cells);
         let from = first as usize - 1;
         let to = last as usize;
@@ -150,6 +157,7 @@ impl<'a> BoxTables<'a> {
         };
         let unreached = change.count - change.last;
         let reached = change.count - change.first;
+        self.empty = false;
         self.ahead.leave(
             change.first,
             change.last,
@@ -187,6 +195,7 @@ impl<'a> BoxTables<'a> {
         self.ahead.clear();
         self.behind.clear();
         self.quiet.clear();
+        self.empty = true;
     }
 
     /// Whether it's known that no drop by these requirements is at a cell that is looked at.
@@ -209,6 +218,7 @@ impl<'a> BoxTables<'a> {
             return Ok(());
         }
         let quiet = own.copied(alloc)?;
+        self.empty = false;
         drop(mem::replace(&mut self.quiet, quiet));
         Ok(())
     }
@@ -404,6 +414,7 @@ impl<'a> BoxTables<'a> {
             window: machine.window(),
             direction: Direction::FromFirst,
         };
+        self.empty = false;
         make_rows(alloc, &mut self.ahead, machine.forward(), reading, count)
     }
 
@@ -425,6 +436,7 @@ impl<'a> BoxTables<'a> {
             window: machine.window(),
             direction: Direction::FromLast,
         };
+        self.empty = false;
         match machine.reverse() {
             Some(reverse) => make_rows(alloc, &mut self.behind, reverse, reading, count),
             None => unreachable!(),

@@ -23,9 +23,9 @@ invariant_of-result c =
     subst (λ (m : Machine). AreHulls (automata_of m) b c.args.k row c.back_side.result) (sym c.get.ensures)
     (subst (λ (u : KnownRows). AreHulls u.machine b c.args.k row c.back_side.result) (sym c.self.view_is)
     (hulls_are b t c.args.k c.requires.hulls c.requires.known c.requires.there p row c.back_side.result
-    (subst (λ (u : KnownRows). AreAutomata u.machine) c.self.view_is c.self.invariant.whole)
+    (subst (λ (u : KnownRows). AreAutomata u.machine) c.self.view_is c.self.invariant.0.whole)
     (ap (λ (u : KnownRows). u.form) c.self.view_is)
-    (subst (λ (u : KnownRows). IsPlanned u.machine.forward p) c.self.view_is c.self.invariant.forward) c.row.ensures.states
+    (subst (λ (u : KnownRows). IsPlanned u.machine.forward p) c.self.view_is c.self.invariant.0.forward) c.row.ensures.states
     (c.row.ensures.hulls ∙ ap (λ (u : KnownRows). get_or u.ahead (c.args.k - c.ends-first.result.0) []) c.self.view_is
     ∙ ap (λ first. get_or t.ahead (c.args.k - first) []) c.ends-first.ensures.first)
     c.back_side.ensures.side c.back_side.ensures.form))

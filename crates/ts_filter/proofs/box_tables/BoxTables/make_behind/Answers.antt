@@ -11,4 +11,4 @@ returns-clause-known c =
     behind_known (automata_of (machine_in c.self.inside.machine)) c.args.cells.now.present _ c.args.self.now _ c.in-Some.reverse.now c.window.result
     (c.window.ensures ∙ ap window_of c.get-machine.ensures) c.requires.known c.self.inside.ahead c.self.inside.behind c.make_rows.new.rows
     (c.in-Some.ensures ∙ ap reverse_of c.get-machine.ensures)
-    c.make_rows.ensures.known (ap (λ (q : Planned). q.form) c.make_rows.ensures.planned ∙ c.self.invariant.form) c.self.view_is refl
+    c.make_rows.ensures.known (ap (λ (q : Planned). q.form) c.make_rows.ensures.planned ∙ c.self.invariant.0.form) c.self.view_is refl

@@ -13,12 +13,14 @@ returns-clause-known c = λ cells.
 
 pub invariant_of-result : goal.invariant_of-result
 invariant_of-result c =
-    let ahead = c.new-ahead.result.planned in let behind = c.rows_behind-behind.result.planned in
-    subst (λ (m : Machine). AreTables (automata_of m) ahead behind c.joints_of-joints.result) c.get-m.ensures
-    (record {
-      whole = c.machine_is_whole.ensures;
-      forward = subst (λ (b : Body). IsPlanned b ahead) c.forward.ensures c.new-ahead.ensures.planned;
-      reverse = c.rows_behind-behind.ensures.planned;
-      form = c.rows_behind-behind.ensures.form ∙ sym c.new-ahead.ensures.form;
-      meets = c.joints_of-joints.ensures;
-    })
+    let ahead = c.new-ahead.result.planned in let behind = c.rows_behind-behind.result.planned in (
+      subst (λ (m : Machine). AreTables (automata_of m) ahead behind c.joints_of-joints.result) c.get-m.ensures
+          (record {
+            whole = c.machine_is_whole.ensures;
+            forward = subst (λ (b : Body). IsPlanned b ahead) c.forward.ensures c.new-ahead.ensures.planned;
+            reverse = c.rows_behind-behind.ensures.planned;
+            form = c.rows_behind-behind.ensures.form ∙ sym c.new-ahead.ensures.form;
+            meets = c.joints_of-joints.ensures;
+          }),
+      λ e. record { none_ahead = c.new-ahead.ensures.none; none_behind = c.rows_behind-behind.ensures.none; none_quiet = c.new.ensures.items },
+    )
