@@ -30,9 +30,9 @@ use Rattle.ts_sweep.specs.Operators.{crossed, sum_of_ends}
 use Rattle.ts_sweep.specs.Packed.{AreSome, AreWithin, IsPackOf, IsSomeEnds, IsWithin, register_span}
 use Rattle.ts_sweep.specs.PackedLaws.{same_ends}
 use Rattle.ts_meet.specs.declared.gluing.Gluing.{Gluing}
-use Rattle.ts_meet.specs.Joints.{IsFoldPlain, IsHeldPlain, IsOpenPlain, IsPlain, between_expression, both_expression, expression, folds_held, held_ends, is_add, joined_expression, leaves_out, once, open_ends, part_by, spread_expression}
+use Rattle.ts_meet.specs.Joints.{IsFoldPlain, IsHeldPlain, IsOpenPlain, IsPlain, expression, folds_held, held_ends, is_add, joined_expression, leaves_out, once, open_ends, part_by}
 use Rattle.ts_meet.specs.SideLaws.{cell_within, far_infinity, near_small}
-use Rattle.ts_meet.specs.Sides.{AreSomeEnds, ArePackOf, IsNear, IsNeutral, TakesAny, TakesNear, TakesPlain, is_far, plain_by, plain_values}
+use Rattle.ts_meet.specs.Sides.{AreSomeEnds, ArePackOf, IsNeutral, TakesAny, TakesNear, TakesPlain, is_far, plain_by, plain_values}
 
 -- registers alone stand in it
 abbrev OfRegisters : Formula → Type 0
@@ -223,6 +223,14 @@ AddsNever (Left f) = IsWord f
 AddsNever (Right f) = IsWord f
 AddsNever (Number x) = Unit {0}
 AddsNever (With o u v) = (adds o ≡ false) × AddsNever u × AddsNever v
+
+-- nothing is taken away in it
+abbrev OfFolds : Glue → Type 0
+OfFolds (Left f) = IsWord f
+OfFolds (Right f) = IsWord f
+OfFolds (Number x) = Unit {0}
+OfFolds (With (Fold o) u v) = OfFolds u × OfFolds v
+OfFolds (With Sub u v) = ⊥
 
 free_taken : (o : Operator) (a b : Ends) → adds o ≡ false → TakesPlain o a b
 free_taken (Fold Add) a b e = never_added e
@@ -446,6 +454,15 @@ module _ (a b : EachOf Ends) where
     fold_free k Max d false l r e = search rules
     fold_free k Min d false l r e = search rules
 
+    fold_folds : (k : Part) (o : Op) (d : ℤ) (trims l r : Bool) → OfFolds (folded o k d trims l r)
+    fold_folds k o d true true true = search rules
+    fold_folds k o d true true false = search rules
+    fold_folds k o d true false true = search rules
+    fold_folds k o d true false false = search rules
+    fold_folds k Add d false l r = search rules
+    fold_folds k Max d false l r = search rules
+    fold_folds k Min d false l r = search rules
+
     worth_small : (x : ℤ) → IsCellValue x → IsWithin 1 x × IsWithin 1 (neg_ℤ x)
     worth_small x h = (cell_within x h, cell_within (neg_ℤ x) (cell_neg x h))
 
@@ -582,42 +599,37 @@ module _ (a b : EachOf Ends) where
         GlueTakes TakesPlain plain_values a b (joined_expression g)
     plain_joined g h plain e = subst (by_joins g) e (plain_takes g h plain)
 
-    -- nothing is taken away from an infinity where the greatest and the least of cells are small
+    -- nothing is taken away from an infinity where one occurrence goes on: in a wide one the greatest of its cells is small
 
     near_word : (f : Formula) (s : EachOf Ends) → IsWord f → Takes TakesNear plain_values s (pos 0) (pos 0) f
     near_word (Leaf w) s h = tt
     near_word (Join o f g) s h = absurd h
 
-    near_never : (o : Operator) (e : Ends) → adds o ≡ false → IsNear o e
-    near_never (Fold o) e h = tt
-    near_never Sub e h = never_added h
+    near_folds : (u : Glue) → OfFolds u → GlueTakes TakesPlain plain_values a b u → GlueTakes TakesNear plain_values a b u
+    near_folds (Left f) n h = near_word f a n
+    near_folds (Right f) n h = near_word f b n
+    near_folds (Number x) n h = tt
+    near_folds (With (Fold o) u v) n h = (near_folds u n.0 h.0, near_folds v n.1 h.1, (h.2, tt))
+    near_folds (With Sub u v) n h = absurd n
 
-    near_free : (u : Glue) → AddsNever u → GlueTakes TakesPlain plain_values a b u → GlueTakes TakesNear plain_values a b u
-    near_free (Left f) n h = near_word f a n
-    near_free (Right f) n h = near_word f b n
-    near_free (Number x) n h = tt
-    near_free (With o u v) n h = (near_free u n.1 h.0, near_free v n.2 h.1, (h.2, near_never o _ n.0))
+    near_part : (k : Part) (o : Op) (g : Gluing) → GlueTakes TakesPlain plain_values a b (folded o k g.worth g.trims g.held_left g.held_right) →
+        GlueTakes TakesNear plain_values a b (folded o k g.worth g.trims g.held_left g.held_right)
+    near_part k o g h =
+        near_folds (folded o k g.worth g.trims g.held_left g.held_right) (fold_folds k o g.worth g.trims g.held_left g.held_right) h
 
-    near_wide : (g : Gluing) → IsCellValue g.worth → IsPlain g a b → g.joins ≡ true → g.wide ≡ true →
-        GlueTakes TakesNear plain_values a b (join_of g.result (fold_of true g.fold (part_by g)))
-    near_wide g h plain j w =
-        let s = plain.spread w j in let t = joined_wide g h plain j w in
-        let u = extreme_within Whole g.fold g h s.0 s.1 in let v = extreme_within Away Min g h refl s.2 in
-        let whole = folded g.fold Whole g.worth g.trims g.held_left g.held_right in
-        let away = folded Min Away g.worth g.trims g.held_left g.held_right in (
+    near_by : (g : Gluing) → IsCellValue g.worth → IsPlain g a b → g.joins ≡ true → (wide : Bool) → g.wide ≡ wide →
+        GlueTakes TakesNear plain_values a b (join_of g.result (fold_of wide g.fold (part_by g)))
+    near_by g h plain j false w = let t = joined_narrow g h plain j w in ((tt, tt, (t.0.2, tt)), near_part Whole g.fold g t.1, (t.2, tt))
+    near_by g h plain j true w =
+        let s = plain.spread w j in let t = joined_wide g h plain j w in let u = extreme_within Whole g.fold g h s.0 s.1 in (
           (tt, tt, (t.0.2, tt)),
-          (
-            near_free whole (fold_free Whole g.fold g.worth g.trims g.held_left g.held_right s.0) u.1,
-            near_free away (fold_free Away Min g.worth g.trims g.held_left g.held_right refl) v.1,
-            (t.1.2, near_small _ (are_within 1 _ (omega arith) u.0)),
-          ),
+          (near_part Whole g.fold g t.1.0, near_part Away Min g t.1.1, (t.1.2, near_small _ (are_within 1 _ (omega arith) u.0))),
           (t.2, tt),
         )
 
-    pub near_joined : (g : Gluing) → IsCellValue g.worth → IsPlain g a b → g.joins ≡ true → g.wide ≡ true →
+    pub near_joined : (g : Gluing) → IsCellValue g.worth → IsPlain g a b → g.joins ≡ true →
         GlueTakes TakesNear plain_values a b (joined_expression g)
-    near_joined g h plain j w =
-        subst (λ z. GlueTakes TakesNear plain_values a b (join_of g.result (fold_of z g.fold (part_by g)))) (sym w) (near_wide g h plain j w)
+    near_joined g h plain j = near_by g h plain j g.wide refl
 
 -- nothing is taken away from an infinity where C is held
 pub held_near : (s : EachOf Ends) → AreSomeEnds s → ArePlain s.c → is_far s.c ≡ false
@@ -653,18 +665,6 @@ unheld_answer o s f g some n =
 pub trims_is : (a : ℕ) → nat_lt 0 a ≡ leaves_out a
 trims_is zero = refl
 trims_is (suc a) = grind arith
-
--- of narrow automata nothing is taken away
-
-pub between_is : (g : Gluing) → g.wide ≡ false → g.trims ≡ true → joined_expression g ≡ between_expression g
-between_is g narrow trims =
-    ap (λ w. join_of g.result (fold_of w g.fold (part_by g))) narrow
-    ∙ ap (λ t. join_of g.result (cond t (folded_between g.fold Whole g.held_left g.held_right g.worth) (folded_both g.fold Whole g.worth))) trims
-
-pub both_is : (g : Gluing) → g.wide ≡ false → g.trims ≡ false → joined_expression g ≡ both_expression g
-both_is g narrow keeps =
-    ap (λ w. join_of g.result (fold_of w g.fold (part_by g))) narrow
-    ∙ ap (λ t. join_of g.result (cond t (folded_between g.fold Whole g.held_left g.held_right g.worth) (folded_both g.fold Whole g.worth))) keeps
 
 -- what lies on both sides of a cell, folded step by step
 
@@ -728,12 +728,19 @@ once_is m a b Add d u = refl
 once_is m a b Max d u = refl
 once_is m a b Min d u = refl
 
--- of wide ones the least is taken away
+-- what stands for what is glued of parts that are known stands for the glued span
 
-pub spread_is : (g : Gluing) → g.wide ≡ true → g.fold ≡ Max → joined_expression g ≡ spread_expression g
-spread_is g wide greatest =
-    ap (λ w. join_of g.result (fold_of w g.fold (part_by g))) wide
-    ∙ ap (λ o. join_of g.result (With Sub (part_by g o Whole) (part_by g Min Away))) greatest
+pub known_apart : (f g : Gluing) (a b : EachOf Span) (e : Ends) → f ≡ g → g.joins ≡ false →
+    IsPackOf e (glue_in sealed_spans a b (apart f.wide f.result)) → IsPackOf e (glue_in sealed_spans a b (expression g))
+known_apart f g a b e is none p =
+    subst (λ z. IsPackOf e (glue_in sealed_spans a b (cond z (joined_expression g) (apart g.wide g.result)))) (sym none)
+    (subst (λ z. IsPackOf e (glue_in sealed_spans a b (apart z.wide z.result))) is p)
+
+pub known_joined : (f g : Gluing) (a b : EachOf Span) (e : Ends) → f ≡ g → g.joins ≡ true →
+    IsPackOf e (glue_in sealed_spans a b (joined_expression f)) → IsPackOf e (glue_in sealed_spans a b (expression g))
+known_joined f g a b e is joins p =
+    subst (λ z. IsPackOf e (glue_in sealed_spans a b (cond z (joined_expression g) (apart g.wide g.result)))) (sym joins)
+    (subst (λ z. IsPackOf e (glue_in sealed_spans a b (joined_expression z))) is p)
 
 -- how a pair of states is glued is its expression
 

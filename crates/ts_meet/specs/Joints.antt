@@ -34,17 +34,6 @@ joined_expression g = join_of g.result (fold_of g.wide g.fold (part_by g))
 abbrev pub expression : Gluing → Glue
 expression g = if g.joins then joined_expression g else apart g.wide g.result
 
--- the expression of narrow automata where an occurrence goes on that leaves its last cell out, or keeps it
-abbrev pub between_expression : Gluing → Glue
-between_expression g = join_of g.result (folded_between g.fold Whole g.held_left g.held_right g.worth)
-
-abbrev pub both_expression : Gluing → Glue
-both_expression g = join_of g.result (folded_both g.fold Whole g.worth)
-
--- the expression of wide automata where an occurrence goes on in which the greatest is folded
-abbrev pub spread_expression : Gluing → Glue
-spread_expression g = join_of g.result (With Sub (part_by g Max Whole) (part_by g Min Away))
-
 -- what is glued where an occurrence goes on, by the parts of the gluing
 abbrev pub told_joined : (o fold : Op) → ℤ → (wide trims held_left held_right : Bool) → Glue
 told_joined o fold worth wide trims held_left held_right =

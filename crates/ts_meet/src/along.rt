@@ -19,11 +19,10 @@ ghost use Rattle.ts_sweep.specs.Sides.{BothEnds, lane_count, sides};
 
 use crate::column::{Watched, watched_in};
 use crate::fold::{CELLS, GREATEST, LEAST, SAME, SUM, ZERO, numbered, numbered_mark};
-use crate::gluing::{Gluing, is_greatest};
+use crate::gluing::Gluing;
 use crate::joints::{Joints, STATES};
 use crate::marked::{hull_of_both, joined, marked_by, nothing, span_of};
-use crate::seam::{Any, Apart, Joined, PlainApart, Seam, SmallApart};
-use crate::through::{Between, Both, Spread};
+use crate::seam::{Any, Apart, Joined, PlainApart, Seam, SmallApart, glued_by};
 use ts_automaton::{Mark, Op};
 use ts_base::Span;
 use ts_row::RowView;
@@ -321,73 +320,30 @@ fn along_joined<const O: u8, const N: usize>(
     ensures { (p : Pair) → AreJoints p joints.now → is_join p.table q r ≡ true → StandFor result
         (pair_along N p q r left.now right.now from values.now cells (length values.now)) }
 {
-    if joints.wide {
-        return along_spread::<O, N>(
-            joints, q, r, first, second, left, right, values, from, cells,
-        );
-    }
-    match joints.fold {
-        Op::Add => along_folded::<O, SUM, N>(
+    match (joints.wide, joints.fold) {
+        (false, Op::Add) => along_folded::<O, SUM, false, N>(
             joints, q, r, first, second, left, right, values, from, cells,
         ),
-        Op::Max => along_folded::<O, GREATEST, N>(
+        (false, Op::Max) => along_folded::<O, GREATEST, false, N>(
             joints, q, r, first, second, left, right, values, from, cells,
         ),
-        Op::Min => along_folded::<O, LEAST, N>(
+        (false, Op::Min) => along_folded::<O, LEAST, false, N>(
             joints, q, r, first, second, left, right, values, from, cells,
         ),
+        (true, Op::Max) => along_folded::<O, GREATEST, true, N>(
+            joints, q, r, first, second, left, right, values, from, cells,
+        ),
+        (true, Op::Add | Op::Min) => {
+            let gluing = joints.joined(numbered(O), joints.fold, q, r);
+            along_glued(Any, joints, gluing, left, right, values, from, cells)
+        }
     }
 }
 
-/// The hull where one occurrence of wide automata goes on: the greatest of its cells less the least.
+/// The hull where one occurrence goes on from one state to the other. `F` is the number of the operator that folds it,
+/// `WIDE` is whether the automata are wide.
 #[inline(always)]
-fn along_spread<const O: u8, const N: usize>(
-    joints: &Joints,
-    q: u8,
-    r: u8,
-    first: Watched,
-    second: Watched,
-    left: &[PackedHull<N>],
-    right: &[PackedHull<N>],
-    values: &[i64],
-    from: usize,
-    cells: u32,
-) -> Ends
-    requires registers { 6 ≤ lane_count N }
-    requires alone { (sides N ≡ BothEnds) ⊎ (joints.now.wide ≡ false) }
-    requires operator { numbered O ≡ joints.now.result }
-    requires wide { joints.now.wide ≡ true }
-    requires state { q < joints.now.left_states }
-    requires other { r < joints.now.right_states }
-    requires left { ArePlaces N (from + length values.now) left.now }
-    requires right { ArePlaces N (from + length values.now) right.now }
-    requires first { AreWatched N (numbered O) first left.now from (length values.now) }
-    requires second { AreWatched N (numbered O) second right.now from (length values.now) }
-    requires values { AreCellValues values.now }
-    ensures { (p : Pair) → AreJoints p joints.now → is_join p.table q r ≡ true → StandFor result
-        (pair_along N p q r left.now right.now from values.now cells (length values.now)) }
-{
-    let gluing = joints.joined(numbered(O), joints.fold, q, r);
-    if !is_greatest(joints.fold) || !gluing.is_plain_within(first, second) {
-        return along_glued(Any, joints, gluing, left, right, values, from, cells);
-    }
-    if joints.trims {
-        let seam = Joined::<O, Spread<true>> {
-            through: Spread::<true>,
-        };
-        along_glued(seam, joints, gluing, left, right, values, from, cells)
-    } else {
-        let seam = Joined::<O, Spread<false>> {
-            through: Spread::<false>,
-        };
-        along_glued(seam, joints, gluing, left, right, values, from, cells)
-    }
-}
-
-/// The hull where one occurrence goes on from one state to the other. `F` is the number of the operator that
-/// folds it.
-#[inline(always)]
-fn along_folded<const O: u8, const F: u8, const N: usize>(
+fn along_folded<const O: u8, const F: u8, const WIDE: bool, const N: usize>(
     joints: &Joints,
     q: u8,
     r: u8,
@@ -403,7 +359,7 @@ fn along_folded<const O: u8, const F: u8, const N: usize>(
     requires alone { (sides N ≡ BothEnds) ⊎ (joints.now.wide ≡ false) }
     requires operator { numbered O ≡ joints.now.result }
     requires fold { numbered F ≡ joints.now.fold }
-    requires narrow { joints.now.wide ≡ false }
+    requires width { joints.now.wide ≡ WIDE }
     requires state { q < joints.now.left_states }
     requires other { r < joints.now.right_states }
     requires left { ArePlaces N (from + length values.now) left.now }
@@ -419,12 +375,10 @@ fn along_folded<const O: u8, const F: u8, const N: usize>(
         return along_glued(Any, joints, gluing, left, right, values, from, cells);
     }
     if joints.trims {
-        let seam = Joined::<O, Between<F>> {
-            through: Between::<F>,
-        };
+        let seam = Joined::<O, F, WIDE, true>;
         along_glued(seam, joints, gluing, left, right, values, from, cells)
     } else {
-        let seam = Joined::<O, Both<F>> { through: Both::<F> };
+        let seam = Joined::<O, F, WIDE, false>;
         along_glued(seam, joints, gluing, left, right, values, from, cells)
     }
 }
@@ -569,6 +523,6 @@ fn with_glued<S: Seam<N>, const M: u8, const N: usize>(
     if !right.is_some() {
         return hull;
     }
-    let glued = seam.glued(gluing, left, right);
+    let glued = glued_by(seam, gluing, left, right);
     joined(hull, marked_by(numbered_mark(M), glued, cells))
 }

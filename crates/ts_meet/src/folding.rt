@@ -5,7 +5,7 @@ ghost use Rattle.ts_base.specs.Limits.{IsCellValue};
 
 use crate::sums::Sums;
 use ts_automaton::{Op, Operator};
-use ts_sweep::operator::{Greater, Lesser};
+use ts_sweep::operator::Lesser;
 use ts_sweep::packed::Ends;
 
 /// An operator that folds cells with the sums `S`.
@@ -47,22 +47,6 @@ impl<S: Sums> Folding<S> for Op {
             Op::Add => S::joined(Operator::Fold(Op::Add), both, S::number(opposite(worth))),
             Op::Max | Op::Min => both,
         }
-    }
-}
-
-impl<S: Sums> Folding<S> for Greater {
-    ghost use Rattle.ts_base.specs.declared.op.Op.TheVariants.{Max};
-
-    ghost fold = { λ k. Max };
-
-    #[inline(always)]
-    fn folded(self, first: Ends, second: Ends) -> Ends {
-        S::greatest(first, second)
-    }
-
-    #[inline(always)]
-    fn once(self, both: Ends, worth: i64) -> Ends {
-        both
     }
 }
 

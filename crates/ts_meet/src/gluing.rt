@@ -11,21 +11,17 @@ ghost use Rattle.ts_meet.specs.Joints.{
   IsFoldPlain,
   IsHeldPlain,
   IsPlain,
-  between_expression,
-  both_expression,
   expression,
   folds_held,
   is_add,
   joined_expression,
   part_by,
-  spread_expression,
   told_joined,
   with_worth,
 };
 ghost use Rattle.ts_meet.specs.Peaks.{IsHeldBy, IsKnown, IsSmall, IsUnder};
 ghost use Rattle.ts_meet.specs.Sides.{
   AreSomeEnds,
-  TakesNear,
   TakesPlain,
   ends_in,
   plain_values,
@@ -44,9 +40,9 @@ use crate::part::{OfAway, OfWhole, Registers};
 use crate::peaks::Peaks;
 use crate::side::{Side, are_plain, is_open_plain, shown};
 use crate::small::is_held_by;
-use crate::sums::{Clamped, Near, Plain, Sums, is_infinity, is_neutral, less_near};
+use crate::sums::{Clamped, Near, Plain, Sums, is_infinity, is_neutral};
 use ts_automaton::{Op, Operator};
-use ts_sweep::operator::{Greater, Lesser};
+use ts_sweep::operator::Lesser;
 use ts_sweep::packed::{Ends, PackedHull};
 
 /// How the registers of a pair of states are glued: the operators that join results and fold cells, what the cell is
@@ -82,12 +78,13 @@ impl Gluing {
         }
     }
 
-    /// This gluing, made of operators and a width equal to its own: where these are constants, so are its parts.
+    /// This gluing, made of parts equal to its own: where these are constants, so are its parts.
     #[inline(always)]
-    pub(crate) fn known(self, operator: Op, fold: Op, wide: bool) -> Gluing
+    pub(crate) fn known(self, operator: Op, fold: Op, wide: bool, trims: bool) -> Gluing
         requires operator { operator ≡ self.result }
         requires fold { fold ≡ self.fold }
         requires wide { wide ≡ self.wide }
+        requires trims { trims ≡ self.trims }
         ensures { result ≡ self }
     {
         Gluing {
@@ -95,24 +92,6 @@ impl Gluing {
             fold,
             worth: self.worth,
             wide,
-            joins: self.joins,
-            trims: self.trims,
-            held_left: self.held_left,
-            held_right: self.held_right,
-        }
-    }
-
-    /// This gluing, where whether an occurrence leaves a cell out at its end is told by what is equal to that.
-    #[inline(always)]
-    pub(crate) fn known_trims(self, trims: bool) -> Gluing
-        requires { trims ≡ self.trims }
-        ensures { result ≡ self }
-    {
-        Gluing {
-            result: self.result,
-            fold: self.fold,
-            worth: self.worth,
-            wide: self.wide,
             joins: self.joins,
             trims,
             held_left: self.held_left,
@@ -173,52 +152,14 @@ impl Gluing {
         }
     }
 
-    /// The glued ends of two hulls before the mark, where no occurrence goes on.
-    #[inline(always)]
-    pub(crate) fn glued_apart<const N: usize>(
-        self,
-        left: &PackedHull<N>,
-        right: &PackedHull<N>,
-    ) -> Ends
-        requires registers { 6 ≤ lane_count N }
-        requires alone { (sides N ≡ BothEnds) ⊎ (self.wide ≡ false) }
-        requires left { AreSome (lane_count N) (lanes_of N left.now) }
-        requires right { AreSome (lane_count N) (lanes_of N right.now) }
-        requires worth { IsCellValue self.worth }
-        requires apart { self.joins ≡ false }
-        ensures { IsPackOf result (seen (sides N) (glue_in sealed_spans
-            (spans_of (unpacked (lanes_of N left.now))) (spans_of (unpacked (lanes_of N right.now)))
-            (expression self))) }
-    {
-        shown::<N>(self.pointed_apart(left, right))
-    }
-
     /// The glued ends of two hulls before the mark, where no occurrence goes on and all numbers that are added are
     /// small.
     #[inline(always)]
-    pub(crate) fn glued_plainly<const N: usize>(
+    pub(crate) fn plain_apart<const N: usize>(
         self,
         left: &PackedHull<N>,
         right: &PackedHull<N>,
     ) -> Ends
-        requires registers { 6 ≤ lane_count N }
-        requires alone { (sides N ≡ BothEnds) ⊎ (self.wide ≡ false) }
-        requires left { AreSome (lane_count N) (lanes_of N left.now) }
-        requires right { AreSome (lane_count N) (lanes_of N right.now) }
-        requires worth { IsCellValue self.worth }
-        requires apart { self.joins ≡ false }
-        requires plain { IsPlain self
-            (side_of (sides N) (lanes_of N left.now)) (side_of (sides N) (lanes_of N right.now)) }
-        ensures { IsPackOf result (seen (sides N) (glue_in sealed_spans
-            (spans_of (unpacked (lanes_of N left.now))) (spans_of (unpacked (lanes_of N right.now)))
-            (expression self))) }
-    {
-        shown::<N>(self.plain_apart(left, right))
-    }
-
-    /// The glued ends of two hulls before the mark, where no occurrence goes on, with the sums of the lanes.
-    #[inline(always)]
-    fn plain_apart<const N: usize>(self, left: &PackedHull<N>, right: &PackedHull<N>) -> Ends
         requires registers { 6 ≤ lane_count N }
         requires left { AreSome (lane_count N) (lanes_of N left.now) }
         requires right { AreSome (lane_count N) (lanes_of N right.now) }
@@ -236,33 +177,7 @@ impl Gluing {
     /// The glued ends of two hulls of wide automata before the mark, where no occurrence goes on, all registers are
     /// small, and it is told on each side whether C is held.
     #[inline(always)]
-    pub(crate) fn glued_held<const N: usize>(
-        self,
-        here: bool,
-        there: bool,
-        left: &PackedHull<N>,
-        right: &PackedHull<N>,
-    ) -> Ends
-        requires registers { 6 ≤ lane_count N }
-        requires alone { (sides N ≡ BothEnds) ⊎ (self.wide ≡ false) }
-        requires left { AreSome (lane_count N) (lanes_of N left.now) }
-        requires right { AreSome (lane_count N) (lanes_of N right.now) }
-        requires worth { IsCellValue self.worth }
-        requires apart { self.joins ≡ false }
-        requires wide { self.wide ≡ true }
-        requires small_left { IsSmall self.result here (side_of (sides N) (lanes_of N left.now)) }
-        requires small_right { IsSmall self.result there (side_of (sides N) (lanes_of N right.now)) }
-        ensures { IsPackOf result (seen (sides N) (glue_in sealed_spans
-            (spans_of (unpacked (lanes_of N left.now))) (spans_of (unpacked (lanes_of N right.now)))
-            (expression self))) }
-    {
-        shown::<N>(self.held_apart(here, there, left, right))
-    }
-
-    /// The glued ends of two hulls of wide automata before the mark, where no occurrence goes on, with the sums of the
-    /// lanes.
-    #[inline(always)]
-    fn held_apart<const N: usize>(
+    pub(crate) fn held_apart<const N: usize>(
         self,
         here: bool,
         there: bool,
@@ -318,56 +233,10 @@ impl Gluing {
         }
     }
 
-    /// The glued ends before the mark of wide automata with the sums of the lanes, where one occurrence goes on: the
-    /// greatest of its cells less the least.
-    #[inline(always)]
-    pub(crate) fn joined_spread(self, left: Side, right: Side) -> Ends
-        requires fits { GlueTakes TakesNear plain_values (ends_in left) (ends_in right) (spread_expression self) }
-        requires worth { IsCellValue self.worth }
-        ensures { result ≡ glue_in plain_values (ends_in left) (ends_in right) (spread_expression self) }
-    {
-        let join = Operator::Fold(self.result);
-        let greatest = self.part::<Near, OfWhole, Greater>(Greater, left, right);
-        let least = self.part::<Near, OfAway, Lesser>(Lesser, left, right);
-        let spread = less_near(greatest, least);
-        Near::joined(join, Near::joined(join, left.r, right.r), spread)
-    }
-
-    /// The glued ends before the mark of narrow automata with the sums of the lanes, where the cell lies between both
-    /// sides.
-    #[inline(always)]
-    pub(crate) fn narrow_between(self, left: Side, right: Side) -> Ends
-        requires fits { GlueTakes TakesPlain plain_values (ends_in left) (ends_in right) (between_expression self) }
-        requires worth { IsCellValue self.worth }
-        ensures { result ≡ glue_in plain_values (ends_in left) (ends_in right) (between_expression self) }
-    {
-        let join = Operator::Fold(self.result);
-        Plain::joined(
-            join,
-            Plain::joined(join, left.r, right.r),
-            self.folded_between::<Plain, OfWhole, Op>(self.fold, left, right),
-        )
-    }
-
-    /// The glued ends before the mark of narrow automata with the sums of the lanes, where both sides have the cell.
-    #[inline(always)]
-    pub(crate) fn narrow_both(self, left: Side, right: Side) -> Ends
-        requires fits { GlueTakes TakesPlain plain_values (ends_in left) (ends_in right) (both_expression self) }
-        requires worth { IsCellValue self.worth }
-        ensures { result ≡ glue_in plain_values (ends_in left) (ends_in right) (both_expression self) }
-    {
-        let join = Operator::Fold(self.result);
-        Plain::joined(
-            join,
-            Plain::joined(join, left.r, right.r),
-            self.folded_both::<Plain, OfWhole, Op>(self.fold, left, right),
-        )
-    }
-
     /// The glued ends of two hulls before the mark, where an end that they haven't is read as the one that they have.
     /// Where one occurrence goes on, that is a call: there is most to fold.
     #[inline(always)]
-    fn pointed<const N: usize>(self, left: &PackedHull<N>, right: &PackedHull<N>) -> Ends
+    pub(crate) fn pointed<const N: usize>(self, left: &PackedHull<N>, right: &PackedHull<N>) -> Ends
         requires registers { 6 ≤ lane_count N }
         requires left { AreSome (lane_count N) (lanes_of N left.now) }
         requires right { AreSome (lane_count N) (lanes_of N right.now) }
@@ -396,7 +265,11 @@ impl Gluing {
     /// The glued ends of two hulls before the mark, where no occurrence goes on. If all numbers that are added or taken
     /// away are small, sums are those of the lanes; otherwise a call clamps them.
     #[inline(always)]
-    fn pointed_apart<const N: usize>(self, left: &PackedHull<N>, right: &PackedHull<N>) -> Ends
+    pub(crate) fn pointed_apart<const N: usize>(
+        self,
+        left: &PackedHull<N>,
+        right: &PackedHull<N>,
+    ) -> Ends
         requires registers { 6 ≤ lane_count N }
         requires left { AreSome (lane_count N) (lanes_of N left.now) }
         requires right { AreSome (lane_count N) (lanes_of N right.now) }
@@ -451,6 +324,28 @@ impl Gluing {
         } else {
             self.joined_by::<Clamped>(first, second)
         }
+    }
+
+    /// The glued ends of two hulls before the mark, where one occurrence goes on and all numbers that are added or
+    /// taken away are small.
+    #[inline(always)]
+    pub(crate) fn near_joined<const N: usize>(
+        self,
+        left: &PackedHull<N>,
+        right: &PackedHull<N>,
+    ) -> Ends
+        requires registers { 6 ≤ lane_count N }
+        requires left { AreSome (lane_count N) (lanes_of N left.now) }
+        requires right { AreSome (lane_count N) (lanes_of N right.now) }
+        requires worth { IsCellValue self.worth }
+        requires joined { self.joins ≡ true }
+        requires plain { IsPlain self
+            (side_of (sides N) (lanes_of N left.now)) (side_of (sides N) (lanes_of N right.now)) }
+        ensures { IsPackOf result (glue_in sealed_spans
+            (pointed_spans (sides N) (spans_of (unpacked (lanes_of N left.now))))
+            (pointed_spans (sides N) (spans_of (unpacked (lanes_of N right.now)))) (joined_expression self)) }
+    {
+        self.joined_by::<Near>(Side::of(left), Side::of(right))
     }
 
     /// The glued ends before the mark, where one occurrence goes on, with the sums `S`.

@@ -36,7 +36,6 @@ mod side;
 mod small;
 mod spot;
 mod sums;
-mod through;
 
 pub use alone::{finish_of, glued_pair};
 pub use along::glued_along;

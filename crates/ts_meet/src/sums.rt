@@ -30,7 +30,7 @@ pub(crate) trait Sums: Copy {
     ghost use Rattle.ts_base.specs.Spans.{one_span};
     ghost use Rattle.ts_automaton.specs.declared.expr.Operator.{Operator};
     ghost use Rattle.ts_automaton.specs.declared.expr.Operator.TheVariants.{Fold};
-    ghost use Rattle.ts_base.specs.declared.op.Op.TheVariants.{Max, Min};
+    ghost use Rattle.ts_base.specs.declared.op.Op.TheVariants.{Min};
     ghost use Rattle.ts_automaton.specs.Registers.{Values};
     ghost use Rattle.ts_hull.specs.Sealed.{sealed_op};
     ghost use Rattle.ts_sweep.specs.declared.packed.Ends.{Ends};
@@ -44,11 +44,6 @@ pub(crate) trait Sums: Copy {
     fn joined(operator: Operator, first: Ends, second: Ends) -> Ends
         requires { takes operator first second }
         ensures { result ≡ values.join operator first second };
-
-    /// The greater of ends.
-    fn greatest(first: Ends, second: Ends) -> Ends
-        requires { takes (Fold Max) first second }
-        ensures { result ≡ values.join (Fold Max) first second };
 
     /// The lesser of ends.
     fn least(first: Ends, second: Ends) -> Ends
@@ -117,7 +112,7 @@ fn less(first: Ends, second: Ends) -> Ends
 
 /// The first less the second, both small numbers.
 #[inline(always)]
-pub(crate) fn less_near(first: Ends, second: Ends) -> Ends
+fn less_near(first: Ends, second: Ends) -> Ends
     requires { TakesNear Sub first second }
     ensures { result ≡ plain_by Sub first second }
 {
@@ -191,11 +186,6 @@ impl Sums for Plain {
     }
 
     #[inline(always)]
-    fn greatest(first: Ends, second: Ends) -> Ends {
-        Greater.of(first, second)
-    }
-
-    #[inline(always)]
     fn least(first: Ends, second: Ends) -> Ends {
         Lesser.of(first, second)
     }
@@ -229,11 +219,6 @@ impl Sums for Near {
     }
 
     #[inline(always)]
-    fn greatest(first: Ends, second: Ends) -> Ends {
-        Greater.of(first, second)
-    }
-
-    #[inline(always)]
     fn least(first: Ends, second: Ends) -> Ends {
         Lesser.of(first, second)
     }
@@ -262,11 +247,6 @@ impl Sums for Clamped {
             Operator::Fold(op) => AnyOperator { op }.of(first, second),
             Operator::Sub => AnyOperator { op: Op::Add }.of(first, crossed(second)),
         }
-    }
-
-    #[inline(always)]
-    fn greatest(first: Ends, second: Ends) -> Ends {
-        Greater.of(first, second)
     }
 
     #[inline(always)]
