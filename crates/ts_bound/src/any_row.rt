@@ -21,7 +21,7 @@ use crate::same_rows::are_same_columns;
 use std::alloc::Global;
 use ts_automaton::Automaton;
 use ts_base::{Memory, Span};
-use ts_meet::{Asked, Joints, Spot, asked_at, finish_along, finish_at, glued_along, settled_to};
+use ts_meet::{Asked, Joints, Spot, asked_along, asked_at, finish_along, finish_at, settled_to};
 use ts_row::{Cell, PackedRow, Plan, RowView};
 use ts_sweep::packed::{LOWER, UPPER};
 
@@ -304,15 +304,18 @@ pub fn settled_between<Q: Asked>(
     }
 }
 
-/// The hull of the glued spans where two rows of one form meet, at the places from `from` on where these values are.
-pub fn glued_values(
+/// The hull of a span that is known so far and of the glued spans where two rows of one form meet, at the places from
+/// `from` on where these values are; none if a number of it does what is asked.
+pub fn asked_values<Q: Asked>(
+    asked: Q,
+    so_far: Span,
     joints: &Joints,
     left: &AnyView<'_>,
     right: &AnyView<'_>,
     values: &[i64],
     from: usize,
     cells: u32,
-) -> Span
+) -> Option<Span>
     requires form { form_of (viewed right.now) ≡ form_of (viewed left.now) }
     requires width { IsFormOf joints.now.wide (form_of (viewed left.now)) }
     requires left { HavePlaces (lanes_of (viewed left.now)) joints.now.left_states (from + length values.now)
@@ -320,22 +323,22 @@ pub fn glued_values(
     requires right { HavePlaces (lanes_of (viewed right.now)) joints.now.right_states (from + length values.now)
         (columns (viewed right.now)) }
     requires values { AreCellValues values.now }
-    ensures { (p : Pair) → AreJoints p joints.now → result ≡ hull_over
+    ensures { (p : Pair) → AreJoints p joints.now → IsAnswer (Q.excluded asked) (span_hull so_far (hull_over
         (λ i. glued_between p (viewed left.now) (viewed right.now) (from + i) (get_or values.now i (pos 0)) cells)
-        (length values.now) }
+        (length values.now))) result }
 {
     match (left, right) {
-        (AnyView::Narrow(left), AnyView::Narrow(right)) => glued_along(
-            joints, left, right, values, from, cells,
+        (AnyView::Narrow(left), AnyView::Narrow(right)) => asked_along(
+            asked, so_far, joints, left, right, values, from, cells,
         ),
-        (AnyView::Upper(left), AnyView::Upper(right)) => glued_along(
-            joints, left, right, values, from, cells,
+        (AnyView::Upper(left), AnyView::Upper(right)) => asked_along(
+            asked, so_far, joints, left, right, values, from, cells,
         ),
-        (AnyView::Lower(left), AnyView::Lower(right)) => glued_along(
-            joints, left, right, values, from, cells,
+        (AnyView::Lower(left), AnyView::Lower(right)) => asked_along(
+            asked, so_far, joints, left, right, values, from, cells,
         ),
-        (AnyView::Wide(left), AnyView::Wide(right)) => glued_along(
-            joints, left, right, values, from, cells,
+        (AnyView::Wide(left), AnyView::Wide(right)) => asked_along(
+            asked, so_far, joints, left, right, values, from, cells,
         ),
         _ => unreachable!(),
     }

@@ -54,7 +54,7 @@ mod table;
 mod tables;
 mod two_cells;
 
-pub use any_row::{AnyRow, AnyView, Form, asked_between, glued_values, settled_between};
+pub use any_row::{AnyRow, AnyView, Form, asked_between, asked_values, settled_between};
 pub use cell_values::CellValues;
 pub use gone::{Change, Gone, Other};
 pub use looks::{ends, is_looked, looked_count, read_at};

@@ -116,15 +116,16 @@ module _ (asked : Question) (f : Body) (place : ℕ) (cells : Box) (values : Lis
       (split_found asked f place cells values (from + i) v row side same ahead (slice_get-get_or values (from + i) (pos 0) before) n is_n served p is width
       h))))
 
-  pub many_split : (o : Option Pair) → IsPairOf f o → ((p : Pair) → o ≡ Some p → p.forward.wide ≡ is_wide p) →
-      IsSide o (cells_after place cells) values side → (s : Span) →
+  -- what is told of their hull is told of a span in which the question finds the same as in that of the values
+  pub many_split : (Told : Span → Type 0) (o : Option Pair) → IsPairOf f o → ((p : Pair) → o ≡ Some p → p.forward.wide ≡ is_wide p) →
+      IsSide o (cells_after place cells) values side →
       ((p : Pair) → AreJoints p side.joints.now →
-      s ≡ hull_over (λ i. glued_between p row (viewed side.row) (from + i) (get_or list i (pos 0)) n) (length list)) →
-      FindsAlike asked s (span_of_all (map (split_at f o place cells) (places_of from to values)))
-  many_split None is width h s told = absurd h
-  many_split (Some p) is width h s told =
-      subst (λ z. FindsAlike asked z (span_of_all (map (split_at f (Some p) place cells) (places_of from to values)))) (sym (told p h.0))
-      (split_some p is (width p refl) h)
+      Told (hull_over (λ i. glued_between p row (viewed side.row) (from + i) (get_or list i (pos 0)) n) (length list))) →
+      (s : Span) × FindsAlike asked s (span_of_all (map (split_at f o place cells) (places_of from to values))) × Told s
+  many_split Told None is width h told = absurd h
+  many_split Told (Some p) is width h told =
+      let s = hull_over (λ i. glued_between p row (viewed side.row) (from + i) (get_or list i (pos 0)) n) (length list) in
+      (s, split_some p is (width p refl) h, told p h.0)
 
 -- their finish spans
 pub many_last : (asked : Question) (a : Body) (place : ℕ) (cells : Box) (values : List ℤ) (row : AnyRow) (n from to : ℕ) (s : Span) →

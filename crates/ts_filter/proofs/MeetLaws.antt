@@ -258,11 +258,11 @@ module _ (asked : Question) (f : Body) (place : ℕ) (cells : Box) (values : Lis
 
 -- a span with the glued span is an answer
 
-none_by : (s : SoFar) (glued split : Span) → FindsAlike s.asked glued split → IsAnswer (Excludes s.asked) (span_hull s.span glued) None →
+pub none_by : (s : SoFar) (glued split : Span) → FindsAlike s.asked glued split → IsAnswer (Excludes s.asked) (span_hull s.span glued) None →
     WithParts s (split ∷ []) None
 none_by s glued split found told = part_found s glued split None found told
 
-some_by : (s : SoFar) (glued split t : Span) → FindsAlike s.asked glued split → IsAnswer (Excludes s.asked) (span_hull s.span glued) (Some t) →
+pub some_by : (s : SoFar) (glued split t : Span) → FindsAlike s.asked glued split → IsAnswer (Excludes s.asked) (span_hull s.span glued) (Some t) →
     WithParts s (split ∷ []) (Some (record { asked = s.asked; span = t }))
 some_by s glued split t found told =
     part_found s glued split (Some (record { asked = s.asked; span = t })) found (

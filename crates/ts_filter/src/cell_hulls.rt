@@ -29,7 +29,7 @@ ghost use Rattle.ts_filter.specs.Ends.{best_end};
 ghost use Rattle.ts_filter.specs.declared.question.Question.TheVariants.{Ranks};
 ghost use Rattle.ts_filter.specs.Boxes.{values_at};
 ghost use Rattle.ts_filter.specs.Alike.{IsServed};
-ghost use Rattle.ts_filter.specs.CellHulls.{AreMet, FindsAll, HasHulls, IsAheadRow, IsBackSide, Serves, places_of};
+ghost use Rattle.ts_filter.specs.CellHulls.{AreMet, HasHulls, IsAheadRow, IsBackSide, Serves, places_of};
 ghost use Rattle.ts_filter.specs.SoFar.{IsSoFar, IsWholeSpan, WithParts};
 ghost use Rattle.ts_filter.specs.TermDrops.{IsFirstRefuting};
 ghost use Rattle.ts_glue.specs.Machines.{forward_of, pair_of, window_of};
@@ -190,19 +190,23 @@ impl<'a> CellHulls<'a> {
         if to - from == 1 {
             return self.with_value(so_far, from, self.value_at(from));
         }
-        so_far.with(self.span_at(from, to))
+        self.with_many(so_far, from, to)
     }
 
-    /// The hull of the spans of the values at the places from `from` on, before `to`.
-    fn span_at(&self, from: u64, to: u64) -> Span
+    /// A span with those of many values at the places from `from` on added, before `to`; none once a number does what
+    /// is asked.
+    fn with_many<'b>(&self, so_far: SoFar<'b>, from: u64, to: u64) -> Option<SoFar<'b>>
+        requires serves { Serves self.now so_far.asked }
         requires order { from ≤ to }
         requires few { to ≤ from + 64 }
         requires inside { to ≤ length (values_at self.now.cell self.now.cells) }
-        ensures { FindsAll (Serves self.now) result (value_span self.now.machine self.now.cell self.now.cells)
-            (places_of from to (values_at self.now.cell self.now.cells)) }
+        ensures { WithParts so_far.entry (span_of_all (map
+            (value_span self.now.machine self.now.cell self.now.cells)
+            (places_of from to (values_at self.now.cell self.now.cells))) ∷ []) result }
     {
         match &self.back {
             Some(back) => split_places(
+                so_far,
                 self.machine,
                 &self.row,
                 back,
@@ -211,7 +215,14 @@ impl<'a> CellHulls<'a> {
                 from,
                 to,
             ),
-            None => last_places(self.machine, &self.row, self.cells, self.cell, from, to),
+            None => so_far.with(last_places(
+                self.machine,
+                &self.row,
+                self.cells,
+                self.cell,
+                from,
+                to,
+            )),
         }
     }
 

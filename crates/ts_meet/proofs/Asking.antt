@@ -1,6 +1,6 @@
 -- What a pair of states tells of the whole span at a value: the pair's span lies in it.
 use Rattle.std.proofs.Common.{◌≡◌, ◌↔◌, ◌⊎◌, Bool, true, false, ℕ, zero, suc, ◌+◌, ◌-◌, ◌<◌, ◌≤◌, ◌≤ℤ◌, ℤ, List, [], ◌∷◌, get_or, length, inl, inr, sym, ap, subst, ◌∙◌, arith}
-use Rattle.std.specs.Prelude.{fold, None, Some}
+use Rattle.std.specs.Prelude.{fold, IfSome, Option, None, Some}
 use Rattle.std.proofs.lemmas.List.{get_or_default}
 use Rattle.ts_base.specs.declared.span.Span.{Span}
 use Rattle.ts_base.specs.SpanLayer.{IsWithin}
@@ -13,7 +13,7 @@ use Rattle.ts_sweep.specs.declared.packed.Ends.{Ends}
 use Rattle.ts_sweep.specs.declared.packed.PackedHull.{PackedHull}
 use Rattle.ts_sweep.specs.Lanes.{least}
 use Rattle.ts_sweep.specs.Sides.{sides}
-use Rattle.ts_meet.specs.Asked.{AreEnough, IsAnswer, Reaches}
+use Rattle.ts_meet.specs.Asked.{AreEnough, IsAnswer, IsHullUntil, Reaches}
 use Rattle.ts_meet.specs.Meets.{glued_hull, glued_seen, hull_of_spans, spans_between, spans_with, standing_in}
 use Rattle.ts_meet.specs.Settled.{Between, IsSettled}
 use Rattle.ts_meet.specs.Sides.{StandFor}
@@ -28,7 +28,7 @@ rising f h k zero = subst (λ m. IsWithin (f k) (f m)) (let e : k ≡ k + 0 = om
 rising f h k (suc d) =
     subst (λ m. IsWithin (f k) (f m)) (let e : (k + d) + 1 ≡ k + suc d = omega arith in e) (λ e i. h (k + d) e (rising f h k d e i))
 
-up_to : (f : ℕ → Span) → ((k : ℕ) → IsWithin (f k) (f (k + 1))) → (k m : ℕ) → k ≤ m → IsWithin (f k) (f m)
+pub up_to : (f : ℕ → Span) → ((k : ℕ) → IsWithin (f k) (f (k + 1))) → (k m : ℕ) → k ≤ m → IsWithin (f k) (f m)
 up_to f h k m le = subst (λ j. IsWithin (f k) (f j)) (let e : k + (m - k) ≡ m = omega (arith, le) in e) (rising f h k (m - k))
 
 pub with_rises : (n : ℕ) (p : Pair) (left : Standing Span) (right : List (List (PackedHull n))) (i : ℕ) (x : ℤ) (cells : ℕ) (s : Span) (k m : ℕ) → k ≤ m →
@@ -74,10 +74,16 @@ settled_has Excluded part n p left right i cells given enough told x whole =
     (part _ _ (pair_within n p left right i x cells (length p.reverse.states) (length p.forward.states) told.0 by.0 told.1 by.1) whole)
 
 -- nor does a hull lack it of which a part reaches ends that are enough
-pub part_has : (Excluded : Span → Type 0) (of_part : (s t : Span) → IsWithin s t → Excluded t → Excluded s) (given : Ends) (so_far whole : Span) →
-    AreEnough Excluded given → (part : Span) × IsWithin part whole × Reaches given part → Excluded (span_hull so_far whole) → ⊥
-part_has Excluded of_part given so_far whole enough (part, within, reached) none =
-    enough part reached (of_part part (span_hull so_far whole) (λ e h. hull_right so_far whole e (within e h)) none)
+pub part_has : (Excluded : Span → Type 0) (of_part : (s t : Span) → IsWithin s t → Excluded t → Excluded s) (enough : Option Ends) (so_far whole : Span) →
+    IfSome enough (AreEnough Excluded) → IsHullUntil enough whole None → Excluded (span_hull so_far whole) → ⊥
+part_has Excluded of_part None so_far whole are reached none = reached
+part_has Excluded of_part (Some given) so_far whole are (part, within, reached) none =
+    are part reached (of_part part (span_hull so_far whole) (λ e h. hull_right so_far whole e (within e h)) none)
+
+-- what a part reaches, the whole reaches
+pub until_within : (enough : Option Ends) (inner whole : Span) → IsWithin inner whole → IsHullUntil enough inner None → IsHullUntil enough whole None
+until_within None inner whole inside reached = reached
+until_within (Some given) inner whole inside (part, within, reached) = (part, (λ e h. inside e (within e h)), reached)
 
 -- ends of a hull that holds something
 pub stands_reaches : (e given : Ends) (s : Span) → StandFor e s → (e.above ≡ least → ⊥) → (given.below ≤ℤ e.below) × (given.above ≤ℤ e.above) → Reaches given s

@@ -1,5 +1,5 @@
 -- The hull of the spans of many values, taken in pair of states by pair of states.
-use Rattle.std.proofs.Common.{◌≡◌, inl, inr, ℕ, zero, suc, ◌+◌, ◌<◌, ◌<ℤ◌, ℤ, pos, Bool, false, cond, ◌&&◌, List, [], get_or, length, map, refl, sym, ap, subst, ◌∙◌, arith}
+use Rattle.std.proofs.Common.{◌≡◌, inl, inr, ℕ, zero, suc, ◌+◌, ◌<◌, ◌≤◌, ◌<ℤ◌, ℤ, pos, Bool, false, cond, ◌&&◌, List, [], get_or, length, map, refl, sym, ap, subst, ◌∙◌, arith}
 use Rattle.std.specs.Prelude.{fold}
 use Rattle.std.specs.Int.{int_max}
 use Rattle.std.specs.List.{range_with_len}
@@ -7,7 +7,9 @@ use Rattle.std.proofs.lemmas.Int.{ints}
 use Rattle.std.proofs.lemmas.List.FromFn.{map-range_with_len_more}
 use Rattle.std.proofs.lemmas.List.Sums.{fold_push}
 use Rattle.ts_base.specs.declared.span.Span.{Span}
+use Rattle.ts_base.specs.SpanLayer.{IsWithin}
 use Rattle.ts_base.specs.Spans.{none_span, span_hull}
+use Rattle.ts_base.proofs.SpanLaws.{hull_left}
 use Rattle.ts_automaton.specs.Body.{Body}
 use Rattle.ts_automaton.specs.Registers.{EachOf, spans}
 use Rattle.ts_automaton.specs.SpanRun.{has_registers, marked_span}
@@ -24,6 +26,7 @@ use Rattle.ts_meet.specs.Along.{between_along, column_finish, finishes_along, hu
 use Rattle.ts_meet.specs.Meets.{finish_seen, glued_seen, hull_of_spans, standing, standing_in}
 use Rattle.ts_meet.specs.Settled.{with_hull_at}
 use Rattle.ts_meet.specs.Sides.{StandFor, no_ends}
+use Rattle.ts_meet.proofs.Asking.{up_to}
 use Rattle.ts_meet.proofs.Marks.{takes_in, with_nothing}
 use Rattle.ts_meet.proofs.Meeting.{between_more, between_none, finishes_more, finishes_none, with_more, with_none}
 use Rattle.ts_meet.proofs.Pointed.{none_seen}
@@ -129,6 +132,14 @@ module _ (n : ℕ) (p : Pair) (from : ℕ) (values : List ℤ) (cells : ℕ) whe
         (λ i lt. with_more n p (with_hull_at n q left (from + i)) right (from + i) (get_or values i (pos 0)) cells m (so_far i))
         ∙ over_both before pair count
 
+    pub with_along_rises : (k m : ℕ) → k ≤ m → IsWithin (hull_over (with_along n p q left right from values cells k so_far) count)
+        (hull_over (with_along n p q left right from values cells m so_far) count)
+    with_along_rises k m le =
+        let f : ℕ → Span = λ j. hull_over (with_along n p q left right from values cells j so_far) count in
+        up_to f
+        (λ j. subst (IsWithin (f j)) (sym (with_along_more j)) (hull_left (f j) (pair_along n p q j left (get_or right j []) from values cells count)))
+        k m le
+
   module _ (left right : List (List (PackedHull n))) (count : ℕ) where
     pub between_along_none : hull_over (between_along n p left right from values cells 0) count ≡ none_span
     between_along_none =
@@ -143,6 +154,19 @@ module _ (n : ℕ) (p : Pair) (from : ℕ) (values : List ℤ) (cells : ℕ) whe
         over_same (between_along n p left right from values cells (k + 1))
         (with_along n p k (get_or left k []) right from values cells (length p.reverse.states) (between_along n p left right from values cells k)) count
         (λ i lt. between_more n p left right (from + i) (get_or values i (pos 0)) cells (length p.reverse.states) k none_span)
+
+    pub between_along_rises : (k m : ℕ) → k ≤ m →
+        IsWithin (hull_over (between_along n p left right from values cells k) count) (hull_over (between_along n p left right from values cells m) count)
+    between_along_rises k m le =
+        let f : ℕ → Span = λ j. hull_over (between_along n p left right from values cells j) count in
+        up_to f
+        (λ j.
+        let before = between_along n p left right from values cells j in let states = length p.reverse.states in let first : 0 ≤ states = omega arith in
+        let with : ℕ → Span = λ m. hull_over (with_along n p j (get_or left j []) right from values cells m before) count in
+        subst (IsWithin (f j)) (sym (between_along_more j))
+        (subst (λ s. IsWithin s (with states)) (with_along_none j (get_or left j []) right before count)
+        (with_along_rises j (get_or left j []) right before count 0 states first)))
+        k m le
 
 -- and those over the states of the last cell
 

@@ -1,5 +1,5 @@
 -- A span as far as what is asked of it needs.
-use Rattle.std.specs.Prelude.{◌≡◌, ◌≤ℤ◌, Option, None, Some}
+use Rattle.std.specs.Prelude.{◌≡◌, ◌≤ℤ◌, MatchOption, Option, None, Some}
 use Rattle.ts_base.specs.declared.span.Span.{Span}
 use Rattle.ts_sweep.specs.declared.packed.Ends.{Ends}
 use Rattle.ts_sweep.specs.Packed.{IsPackOf}
@@ -22,7 +22,7 @@ pub record Reaches (given : Ends) (s : Span) : Type 0 where
 abbrev pub AreEnough : (Span → Type 0) → Ends → Type 0
 AreEnough Excluded given = (s : Span) → Reaches given s → Excluded s → ⊥
 
--- ends that stand for the whole hull; none where a part of it reaches those given
-abbrev pub IsHullUntil : Ends → Span → Option Ends → Type 0
-IsHullUntil given whole None = (part : Span) × IsWithin part whole × Reaches given part
-IsHullUntil given whole (Some e) = StandFor e whole
+-- ends that stand for the whole hull; none where some are given, and a part of it reaches them
+abbrev pub IsHullUntil : Option Ends → Span → Option Ends → Type 0
+IsHullUntil enough whole None = MatchOption enough ⊥ (λ given. (part : Span) × IsWithin part whole × Reaches given part)
+IsHullUntil enough whole (Some e) = StandFor e whole

@@ -1,5 +1,5 @@
 //! The hull of the spans of many values of a cell, pair of states by pair of states: how a pair is glued is found once,
-//! and then all values are glued in one loop.
+//! and then all values are glued in one loop. A question ends at the first pair with which it is settled.
 
 ghost use Rattle.std.specs.Prelude.{◌≡◌, ◌⊎◌, ℕ, ◌+◌, ◌<◌, ◌≤◌, ℤ, true, false, [], get_or, length};
 ghost use Rattle.ts_base.specs.declared.span.Span.{Span};
@@ -8,6 +8,7 @@ ghost use Rattle.ts_base.specs.Spans.{span_hull};
 ghost use Rattle.ts_glue.specs.Glue.{glue_of, is_join};
 ghost use Rattle.ts_glue.specs.Pairs.{Pair};
 ghost use Rattle.ts_meet.specs.Along.{AreCellValues, glued_along, hull_over, pair_along, with_along};
+ghost use Rattle.ts_meet.specs.Asked.{IsAnswer, IsHullUntil};
 ghost use Rattle.ts_meet.specs.Joints.{AreJoints, IsGluing, expression, numbered, numbered_mark};
 ghost use Rattle.ts_meet.specs.Meets.{glued_seen};
 ghost use Rattle.ts_meet.specs.Peaks.{AreTaken, AreWatched, IsTaken, unwatched};
@@ -17,27 +18,55 @@ ghost use Rattle.ts_row.specs.Rows.{lanes_of};
 ghost use Rattle.ts_sweep.specs.Packed.{IsPacked};
 ghost use Rattle.ts_sweep.specs.Sides.{BothEnds, lane_count, sides};
 
+use crate::asked::{Asked, answered, is_enough};
 use crate::column::{Watched, watched_in};
 use crate::fold::{CELLS, GREATEST, LEAST, SAME, SUM, ZERO, numbered, numbered_mark};
 use crate::gluing::Gluing;
 use crate::joints::{Joints, STATES};
-use crate::marked::{hull_of_both, joined, marked_by, nothing, span_of};
+use crate::marked::{hull_of_both, joined, marked_by, nothing};
 use crate::seam::{Any, Apart, Joined, PlainApart, Seam, SmallApart, glued_by};
 use ts_automaton::{Mark, Op};
 use ts_base::Span;
 use ts_row::RowView;
 use ts_sweep::packed::{Ends, Packed, PackedHull};
 
-/// The hull of the glued spans of all pairs of states at the places from `from` on where these values of the cell are:
-/// the forward row is on the left, the reverse one on the right.
-pub fn glued_along<const N: usize>(
+/// The hull of a span that is known so far, and of the glued spans of all pairs of states at the places from `from` on
+/// where these values of the cell are: the forward row is on the left, the reverse one on the right. None where it has
+/// what is asked, which the first pairs most often show: then the others are left out.
+pub fn asked_along<Q: Asked, const N: usize>(
+    asked: Q,
+    so_far: Span,
     joints: &Joints,
     left: &RowView<'_, N>,
     right: &RowView<'_, N>,
     values: &[i64],
     from: usize,
     cells: u32,
-) -> Span
+) -> Option<Span>
+    requires registers { 6 ≤ lane_count N }
+    requires lanes { N ≤ 64 }
+    requires alone { (sides N ≡ BothEnds) ⊎ (joints.now.wide ≡ false) }
+    requires left { HavePlaces N joints.now.left_states (from + length values.now) left.now }
+    requires right { HavePlaces N joints.now.right_states (from + length values.now) right.now }
+    requires values { AreCellValues values.now }
+    ensures { (p : Pair) → AreJoints p joints.now → IsAnswer (Q.excluded asked)
+        (span_hull so_far (glued_along N p left.now right.now from values.now cells)) result }
+{
+    let hull = hull_along(asked.enough(), joints, left, right, values, from, cells);
+    answered(asked, so_far, hull)
+}
+
+/// The ends of the hull of the glued spans of all pairs of states at these places. None where those of some of them
+/// reach the ends that are enough.
+fn hull_along<const N: usize>(
+    enough: Option<Ends>,
+    joints: &Joints,
+    left: &RowView<'_, N>,
+    right: &RowView<'_, N>,
+    values: &[i64],
+    from: usize,
+    cells: u32,
+) -> Option<Ends>
     requires registers { 6 ≤ lane_count N }
     requires lanes { N ≤ 64 }
     requires alone { (sides N ≡ BothEnds) ⊎ (joints.now.wide ≡ false) }
@@ -45,26 +74,27 @@ pub fn glued_along<const N: usize>(
     requires right { HavePlaces N joints.now.right_states (from + length values.now) right.now }
     requires values { AreCellValues values.now }
     ensures { (p : Pair) → AreJoints p joints.now →
-        result ≡ glued_along N p left.now right.now from values.now cells }
+        IsHullUntil enough (glued_along N p left.now right.now from values.now cells) result }
 {
     match joints.result {
-        Op::Add => along_by::<SUM, N>(joints, left, right, values, from, cells),
-        Op::Max => along_by::<GREATEST, N>(joints, left, right, values, from, cells),
-        Op::Min => along_by::<LEAST, N>(joints, left, right, values, from, cells),
+        Op::Add => along_by::<SUM, N>(enough, joints, left, right, values, from, cells),
+        Op::Max => along_by::<GREATEST, N>(enough, joints, left, right, values, from, cells),
+        Op::Min => along_by::<LEAST, N>(enough, joints, left, right, values, from, cells),
     }
 }
 
-/// The hull of the glued spans of all pairs of states at these places. `O` is the number of the operator that joins
-/// results.
+/// The ends of the hull of the glued spans of all pairs of states at these places. None where those of some of them
+/// reach the ends that are enough. `O` is the number of the operator that joins results.
 #[inline(always)]
 fn along_by<const O: u8, const N: usize>(
+    enough: Option<Ends>,
     joints: &Joints,
     left: &RowView<'_, N>,
     right: &RowView<'_, N>,
     values: &[i64],
     from: usize,
     cells: u32,
-) -> Span
+) -> Option<Ends>
     requires registers { 6 ≤ lane_count N }
     requires lanes { N ≤ 64 }
     requires alone { (sides N ≡ BothEnds) ⊎ (joints.now.wide ≡ false) }
@@ -73,13 +103,14 @@ fn along_by<const O: u8, const N: usize>(
     requires right { HavePlaces N joints.now.right_states (from + length values.now) right.now }
     requires values { AreCellValues values.now }
     ensures { (p : Pair) → AreJoints p joints.now →
-        result ≡ glued_along N p left.now right.now from values.now cells }
+        IsHullUntil enough (glued_along N p left.now right.now from values.now cells) result }
 {
     let seconds = watched_in::<O, N>(joints, joints.right_states, right, from, values.len());
     let mut hull = nothing();
     for q in 0..joints.left_states {
-        hull = with_columns::<O, N>(
+        match with_columns::<O, N>(
             hull,
+            enough,
             joints,
             q,
             left.column(q),
@@ -88,15 +119,19 @@ fn along_by<const O: u8, const N: usize>(
             values,
             from,
             cells,
-        );
+        ) {
+            Some(more) => hull = more,
+            None => return None,
+        }
     }
-    span_of(hull)
+    Some(hull)
 }
 
-/// A hull with the glued spans of one state on the left added.
+/// A hull with the glued spans of one state on the left added. None once it reaches the ends that are enough.
 #[inline(always)]
 fn with_columns<const O: u8, const N: usize>(
     hull: Ends,
+    enough: Option<Ends>,
     joints: &Joints,
     q: u8,
     left: &[PackedHull<N>],
@@ -105,7 +140,7 @@ fn with_columns<const O: u8, const N: usize>(
     values: &[i64],
     from: usize,
     cells: u32,
-) -> Ends
+) -> Option<Ends>
     requires registers { 6 ≤ lane_count N }
     requires lanes { N ≤ 64 }
     requires alone { (sides N ≡ BothEnds) ⊎ (joints.now.wide ≡ false) }
@@ -117,9 +152,9 @@ fn with_columns<const O: u8, const N: usize>(
         AreWatched N (numbered O) (get_or seconds.now r unwatched) (get_or right.now r []) from (length values.now) }
     requires values { AreCellValues values.now }
     ensures { (p : Pair) (so_far : ℕ → Span) → AreJoints p joints.now →
-        StandFor hull (hull_over so_far (length values.now)) → StandFor result (hull_over
+        StandFor hull (hull_over so_far (length values.now)) → IsHullUntil enough (hull_over
         (with_along N p q left.now right.now from values.now cells (length p.reverse.states) so_far)
-        (length values.now)) }
+        (length values.now)) result }
 {
     let needed = joints.watches_left(q);
     let first = Watched::over::<O, N>(needed, joints.wide, left, from, values.len());
@@ -139,8 +174,11 @@ fn with_columns<const O: u8, const N: usize>(
             cells,
         );
         all = hull_of_both(all, pair);
+        if is_enough(all, enough) {
+            return None;
+        }
     }
-    all
+    Some(all)
 }
 
 /// The hull of the glued spans of one pair of states at the places from `from` on where these values are.

@@ -1,6 +1,6 @@
 //! The span of a value, where it doesn't have what is asked.
 
-ghost use Rattle.std.specs.Prelude.{◌≡◌, ◌⊎◌, ◌≤◌, IsTrue, false};
+ghost use Rattle.std.specs.Prelude.{◌≡◌, ◌⊎◌, ◌≤◌, IfSome, IsTrue, None, Option, Some, false};
 ghost use Rattle.ts_base.specs.declared.span.Span.{Span};
 ghost use Rattle.ts_base.specs.Limits.{IsCellValue};
 ghost use Rattle.ts_base.specs.Spans.{none_span, span_hull};
@@ -9,6 +9,7 @@ ghost use Rattle.ts_meet.specs.Asked.{AreEnough, IsAnswer, IsHullUntil, Reaches}
 ghost use Rattle.ts_meet.specs.Joints.{AreJoints};
 ghost use Rattle.ts_meet.specs.Meets.{HasPlace, glued_hull};
 ghost use Rattle.ts_meet.specs.Sides.{StandFor};
+ghost use Rattle.ts_sweep.specs.declared.packed.Ends.{Ends};
 ghost use Rattle.ts_sweep.specs.Sides.{BothEnds, lane_count, sides};
 
 use crate::joints::Joints;
@@ -107,7 +108,18 @@ fn asked_until<Q: Asked, const N: usize>(
         IsAnswer (Q.excluded asked)
         (span_hull so_far (glued_hull N p left.now right.now spot.place spot.value spot.cells)) result }
 {
-    match glued_until(enough, joints, left, right, spot) {
+    let hull = glued_until(enough, joints, left, right, spot);
+    answered(asked, so_far, hull)
+}
+
+/// The answer of which the hull of all glued spans is known: that hull in lanes, or that some of them reach the ends
+/// that are enough.
+#[inline(always)]
+pub(crate) fn answered<Q: Asked>(asked: Q, so_far: Span, hull: Option<Ends>) -> Option<Span>
+    ensures { (enough : Option Ends) (whole : Span) → IfSome enough (AreEnough (Q.excluded asked)) →
+        IsHullUntil enough whole hull → IsAnswer (Q.excluded asked) (span_hull so_far whole) result }
+{
+    match hull {
         Some(hull) => asked_whole(asked, so_far, span_of(hull)),
         None => None,
     }
@@ -128,7 +140,7 @@ fn glued_until<const N: usize>(
     requires right { HasPlace N joints.now.right_states spot.place right.now }
     requires value { IsCellValue spot.value }
     ensures { (p : Pair) → AreJoints p joints.now →
-        IsHullUntil enough (glued_hull N p left.now right.now spot.place spot.value spot.cells) result }
+        IsHullUntil (Some enough) (glued_hull N p left.now right.now spot.place spot.value spot.cells) result }
 {
     match joints.result {
         Op::Add => hull_until(enough, Op::Add, joints, left, right, spot),
@@ -156,7 +168,7 @@ fn hull_until<const N: usize>(
     requires right { HasPlace N joints.now.right_states spot.place right.now }
     requires value { IsCellValue spot.value }
     ensures { (p : Pair) → AreJoints p joints.now →
-        IsHullUntil enough (glued_hull N p left.now right.now spot.place spot.value spot.cells) result }
+        IsHullUntil (Some enough) (glued_hull N p left.now right.now spot.place spot.value spot.cells) result }
 {
     let mut hull = nothing();
     for q in 0..joints.left_states {
@@ -185,4 +197,16 @@ fn has_reached(hull: Ends, given: Ends) -> bool
         return false;
     }
     reaches(hull, given)
+}
+
+/// Whether the ends of a hull, in lanes, reach the ends that are enough, if any are; never where nothing was taken in
+/// yet.
+#[inline(always)]
+pub(crate) fn is_enough(hull: Ends, enough: Option<Ends>) -> bool
+    ensures { IsTrue result → (s : Span) → StandFor hull s → IsHullUntil enough s None }
+{
+    match enough {
+        Some(given) => has_reached(hull, given),
+        None => false,
+    }
 }

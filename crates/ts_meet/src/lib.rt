@@ -38,7 +38,7 @@ mod spot;
 mod sums;
 
 pub use alone::{finish_of, glued_pair};
-pub use along::glued_along;
+pub use along::asked_along;
 pub use asked::{Asked, asked_at};
 pub use finished::finish_along;
 pub use joints::Joints;

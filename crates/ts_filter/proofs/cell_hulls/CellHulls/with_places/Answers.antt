@@ -2,20 +2,12 @@ use mir.Val.{SFits}
 use Rattle.std.proofs.Common.{◌<◌, ℤ, [], ◌∷◌, map, length, w64, ap, ◌∙◌, sym, subst, arith, rules}
 use Rattle.std.proofs.lemmas.Int.{to_z-of_z}
 use Rattle.ts_base.specs.declared.span.Span.{Span}
-use Rattle.ts_bound.specs.TermSpans.{span_of_all, value_span}
+use Rattle.ts_bound.specs.TermSpans.{value_span}
 use Rattle.ts_filter.specs.Boxes.{values_at}
-use Rattle.ts_filter.specs.CellHulls.{places_of}
 use Rattle.ts_filter.specs.SoFar.{WithParts}
 use Rattle.ts_filter.proofs.ManyLaws.{one_place}
-use Rattle.ts_filter.proofs.SoFarLaws.{part_found, value_canonical}
+use Rattle.ts_filter.proofs.SoFarLaws.{value_canonical}
 use Rattle.ts_filter.proofs.cell_hulls.CellHulls.with_places.Goals as goal
-
-pub returns : goal.returns
-returns c =
-    let t = c.args.self.now in
-    part_found c.args.so_far c.span_at.result
-    (span_of_all (map (value_span t.machine t.cell t.cells) (places_of c.args.from c.args.to (values_at t.cell t.cells)))) c.with.result
-    (c.span_at.ensures c.args.so_far.asked c.requires.serves) c.with.ensures
 
 pub returns-then-to-from-eq1 : goal.returns-then-to-from-eq1
 returns-then-to-from-eq1 c =
