@@ -2,15 +2,14 @@
 use Rattle.std.proofs.Common.{◌≡◌, ℕ, ◌+◌, ◌<◌, Bool, List, length, get_or, set, ap, subst, ◌∙◌, arith}
 use Rattle.std.proofs.lemmas.List.{length-set}
 use Rattle.ts_automaton.specs.Body.{Body, Move}
-use Rattle.ts_hull.specs.Cuts.{cut_of}
-use Rattle.ts_row.specs.declared.plan.Shape.{Shape}
+use Rattle.ts_row.specs.declared.plan.MovePlan.{MovePlan}
 use Rattle.ts_row.specs.declared.plan.StatePlan.{StatePlan}
-use Rattle.ts_row.specs.Plans.{IsShapeOf, IsStatePlan, unplanned}
+use Rattle.ts_row.specs.Plans.{IsMovePlan, IsStatePlan, unplanned}
 use Rattle.ts_row.proofs.Places.{at_each}
 
--- the shape of one move is that of another that is the same
-pub same_shape : (wide : Bool) (s : Shape) (m n : Move) → m ≡ n → IsShapeOf wide s (cut_of m) → IsShapeOf wide s (cut_of n)
-same_shape wide s m n same shape = subst (λ z. IsShapeOf wide s (cut_of z)) same shape
+-- the plan of one move is that of another that is the same
+pub same_plan : (wide : Bool) (p : MovePlan) (equal : Bool) (m n : Move) → m ≡ n → IsMovePlan wide p equal m → IsMovePlan wide p equal n
+same_plan wide p equal m n same plan = subst (IsMovePlan wide p equal) same plan
 
 -- the plans of the first q states
 abbrev pub ArePlanned : Body → ℕ → List StatePlan → Type 0

@@ -1,5 +1,5 @@
 -- How the moves of an automaton are taken in, found once for an automaton.
-use Rattle.std.specs.Prelude.{◌≡◌, ℕ, ◌<◌, Bool, true, false, if◌then◌else◌, length, get_or}
+use Rattle.std.specs.Prelude.{◌≡◌, ℕ, ◌<◌, Bool, true, false, if◌then◌else◌, IfSome, None, length, get_or}
 use Rattle.ts_base.specs.declared.letter.Letter.{Letter}
 use Rattle.ts_base.specs.declared.letter.Letter.TheVariants.{Less, Equal, Greater}
 use Rattle.ts_base.specs.declared.op.Op.{Op}
@@ -10,12 +10,14 @@ use Rattle.ts_automaton.specs.declared.expr.Operator.{Operator}
 use Rattle.ts_automaton.specs.declared.expr.Operator.TheVariants.{Fold, Sub}
 use Rattle.ts_automaton.specs.Formula.{Formula, Leaf, Join, formula}
 use Rattle.ts_automaton.specs.Registers.{each}
-use Rattle.ts_automaton.specs.Body.{Body}
+use Rattle.ts_automaton.specs.Body.{Body, Move}
 use Rattle.ts_hull.specs.Sealed.{move_at}
 use Rattle.ts_hull.specs.Splits.{Split, FrontOf, TailOf}
 use Rattle.ts_hull.specs.Cuts.{Cut, cut_of}
 use Rattle.ts_sweep.specs.Here.{here_formula, here_move}
 use Rattle.ts_sweep.specs.Moves.{of_width}
+use Rattle.ts_sweep.specs.PairMoves.{emission}
+use Rattle.ts_row.specs.declared.emission.Operators.{Operators}
 use Rattle.ts_row.specs.declared.words.Words.{Words}
 use Rattle.ts_row.specs.declared.words.Words.TheVariants.{Word, Two, Three, Again}
 use Rattle.ts_row.specs.declared.plan.CellFold.{CellFold}
@@ -25,6 +27,7 @@ use Rattle.ts_row.specs.declared.plan.RangeFold.TheVariants.{Sum, Highest, Lowes
 use Rattle.ts_row.specs.declared.plan.Shape.{Shape}
 use Rattle.ts_row.specs.declared.plan.Shape.TheVariants.{Kept, Longer, Begun, Found, Inside, Ended, Anew, FoundTwice, EndedTwice, LongerNext, FoundNext, InsideNext, Other, Pairs}
 use Rattle.ts_row.specs.declared.plan.Equals.TheVariants.{Alone, WithLess, WithGreater}
+use Rattle.ts_row.specs.declared.plan.MovePlan.{MovePlan}
 use Rattle.ts_row.specs.declared.plan.StatePlan.{StatePlan}
 use Rattle.ts_row.specs.declared.plan.Plan.{Plan}
 
@@ -196,25 +199,37 @@ IsShapeOf wide Pairs k = Unit {0}
 IsShapeOf wide s k =
     k ≡ of_width wide (fronts (made_by s).0 (made_by s).1 (made_by s).2 (made_by s).3 (result_by wide s))
 
--- the split expressions of the move of a state on a letter: on `=` the next cell is read as the cell
+-- a move is the emission with these operators: in a wide automaton, where a range is a difference, the greatest cell
+-- less the least
+abbrev pub AreOperatorsOf : Bool → Move → Operators → Type 0
+AreOperatorsOf wide m p = (m.to ≡ emission wide p.ranges p.cells) × (wide ≡ true → p.cells ≡ Max)
+
+-- what is planned of a move: its shape, where on `=` the next cell is read as the cell, and its operators
+pub record IsMovePlan (wide : Bool) (p : MovePlan) (equal : Bool) (m : Move) : Type 0 where
+  pub shape : IsShapeOf wide p.shape (cut_of (here_move equal m))
+  pub operators : IfSome p.operators (AreOperatorsOf wide m)
+
 abbrev pub is_equal : Letter → Bool
 is_equal Less = false
 is_equal Equal = true
 is_equal Greater = false
 
-abbrev pub cut_at : Body → ℕ → Letter → Cut
-cut_at b q l = cut_of (here_move (is_equal l) (move_at b q l))
+abbrev pub IsPlanAt : Body → ℕ → Letter → MovePlan → Type 0
+IsPlanAt b q l p = IsMovePlan b.wide p (is_equal l) (move_at b q l)
 
--- what is planned of a state: the shape of each move, and that the move on `=` is the same as another only if it is
+-- what is planned of a state: of each move, and that the move on `=` is the same as another only if it is
 pub record IsStatePlan (b : Body) (q : ℕ) (p : StatePlan) : Type 0 where
-  pub less : IsShapeOf b.wide p.less (cut_at b q Less)
-  pub equal : IsShapeOf b.wide p.equal (cut_at b q Equal)
-  pub greater : IsShapeOf b.wide p.greater (cut_at b q Greater)
+  pub less : IsPlanAt b q Less p.less
+  pub equal : IsPlanAt b q Equal p.equal
+  pub greater : IsPlanAt b q Greater p.greater
   pub with_less : p.equals ≡ WithLess → move_at b q Equal ≡ move_at b q Less
   pub with_greater : p.equals ≡ WithGreater → move_at b q Equal ≡ move_at b q Greater
 
+abbrev pub unplanned_move : MovePlan
+unplanned_move = record { shape = Other; operators = None }
+
 abbrev pub unplanned : StatePlan
-unplanned = record { less = Other; equal = Other; greater = Other; equals = Alone }
+unplanned = record { less = unplanned_move; equal = unplanned_move; greater = unplanned_move; equals = Alone }
 
 -- the plan of an automaton: of each of its states
 abbrev pub IsPlanOf : Body → Plan → Type 0

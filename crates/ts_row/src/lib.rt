@@ -17,6 +17,7 @@
 mod between;
 mod cell;
 mod clamped;
+mod emission;
 mod next_shapes;
 mod packed_row;
 mod pair_shapes;

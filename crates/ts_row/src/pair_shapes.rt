@@ -3,10 +3,9 @@
 ghost use Rattle.std.specs.Prelude.{◌≡◌, ◌<◌, IfSome, ℕ, ℤ, List, false, get_or, true};
 ghost use Rattle.ts_automaton.specs.Body.{Move, move_of};
 ghost use Rattle.ts_automaton.specs.Registers.{rests};
-ghost use Rattle.ts_automaton.specs.declared.expr.Atom.TheVariants.{C, Next, R, This};
-ghost use Rattle.ts_automaton.specs.declared.expr.Operator.TheVariants.{Fold};
-ghost use Rattle.ts_automaton.specs.Formula.{Join, Leaf, formula, is_zero};
+ghost use Rattle.ts_automaton.specs.Formula.{is_zero};
 ghost use Rattle.ts_base.specs.declared.op.Op.TheVariants.{Add, Max};
+ghost use Rattle.ts_row.specs.Plans.{AreOperatorsOf};
 ghost use Rattle.ts_row.specs.Rows.{IsColumn, lanes_of, nothing};
 ghost use Rattle.ts_row.specs.Takings.{AreEmitted, HasMoved, IsCovered, count_in};
 ghost use Rattle.ts_sweep.specs.declared.packed.Name.TheVariants.{R as NameR};
@@ -14,22 +13,14 @@ ghost use Rattle.ts_sweep.specs.Covers.{IsBounded};
 ghost use Rattle.ts_sweep.specs.Fronts.{IsMoveFor};
 ghost use Rattle.ts_sweep.specs.Lanes.{some_lanes};
 ghost use Rattle.ts_sweep.specs.Packed.{AreWithin, name_ends};
-ghost use Rattle.ts_sweep.specs.PairMoves.{
-  IsBegun,
-  emission,
-  held_atom,
-  open_atom,
-  pair_cells,
-  pair_found,
-  pair_op,
-  start_atom,
-};
+ghost use Rattle.ts_sweep.specs.PairMoves.{IsBegun, emission, pair_op};
 ghost use Rattle.ts_sweep.specs.Sides.{as_read, has_wide, lane_count, sides};
 
 use crate::between::{Between, On};
 use crate::cell::Cell;
+use crate::emission::Operators;
 use crate::sum_shapes::sweep_sums;
-use ts_automaton::{Atom, Expr, Op, Turn};
+use ts_automaton::{Op, Turn};
 use ts_base::Letter;
 use ts_sweep::cover::Cover;
 use ts_sweep::front::{Front, Register};
@@ -38,115 +29,6 @@ use ts_sweep::pair_move::{AnyMove, Emission, PairMove, are_begun};
 use ts_sweep::pairs::take_pairs;
 use ts_sweep::spread::take_spread;
 use ts_sweep::values::Listed;
-
-/// Whether an expression is a word.
-fn is_word(e: &Expr, word: Atom) -> bool
-    ensures { result ≡ true → formula e.now ≡ Leaf word }
-{
-    match (e, word) {
-        (Expr::C, Atom::C) | (Expr::E, Atom::E) | (Expr::D, Atom::D) => true,
-        (Expr::F, Atom::F) | (Expr::R, Atom::R) | (Expr::Zero, Atom::Zero) => true,
-        (Expr::This, Atom::This) | (Expr::Next, Atom::Next) => true,
-        (Expr::NegInf, Atom::NegInf) | (Expr::PosInf, Atom::PosInf) => true,
-        _ => false,
-    }
-}
-
-/// Whether an expression joins a register with the cell by an operator.
-fn is_with_cell(e: &Expr, cells: Op, register: Atom) -> bool
-    ensures { result ≡ true → formula e.now ≡ Join (Fold cells) (Leaf register) (Leaf This) }
-{
-    match (cells, e) {
-        (Op::Add, Expr::Add(a, b)) | (Op::Max, Expr::Max(a, b)) | (Op::Min, Expr::Min(a, b)) => {
-            is_word(a, register) && is_word(b, Atom::This)
-        }
-        _ => false,
-    }
-}
-
-/// Whether an expression joins a register with the cell and the next one by an operator.
-fn is_pair(e: &Expr, cells: Op, register: Atom) -> bool
-    ensures { result ≡ true → formula e.now ≡ pair_cells cells register }
-{
-    match (cells, e) {
-        (Op::Add, Expr::Add(a, b)) | (Op::Max, Expr::Max(a, b)) | (Op::Min, Expr::Min(a, b)) => {
-            is_with_cell(a, cells, register) && is_word(b, Atom::Next)
-        }
-        _ => false,
-    }
-}
-
-/// Whether an expression is what D, the cell and the next one give.
-fn is_pair_found(e: &Expr, wide: bool, cells: Op) -> bool
-    ensures value { result ≡ true → formula e.now ≡ pair_found wide cells }
-    ensures greatest { result ≡ true → wide ≡ true → cells ≡ Max }
-{
-    match (e, cells) {
-        (Expr::Sub(a, b), Op::Max) => wide
-            && is_pair(a, Op::Max, Atom::D)
-            && is_pair(b, Op::Min, Atom::F),
-        _ => !wide && is_pair(e, cells, Atom::D),
-    }
-}
-
-/// Whether two expressions are R, and what D, the cell and the next one give.
-fn is_taken(a: &Expr, b: &Expr, wide: bool, cells: Op) -> bool
-    ensures value { result ≡ true → (formula a.now ≡ Leaf R) × (formula b.now ≡ pair_found wide cells) }
-    ensures greatest { result ≡ true → wide ≡ true → cells ≡ Max }
-{
-    is_word(a, Atom::R) && is_pair_found(b, wide, cells)
-}
-
-/// The operator by which an expression joins R with what D, the cell and the next one give.
-fn ranges_of(e: &Expr, wide: bool, cells: Op) -> Option<Op>
-    ensures { IfSome result (λ o. (formula e.now ≡ Join (Fold o) (Leaf R) (pair_found wide cells))
-        × (wide ≡ true → cells ≡ Max)) }
-{
-    match e {
-        Expr::Add(a, b) if is_taken(a, b, wide, cells) => Some(Op::Add),
-        Expr::Max(a, b) if is_taken(a, b, wide, cells) => Some(Op::Max),
-        Expr::Min(a, b) if is_taken(a, b, wide, cells) => Some(Op::Min),
-        _ => None,
-    }
-}
-
-/// Whether the expressions of a move but that of R are those of an emission.
-fn is_reset(t: &Turn, wide: bool, cells: Op) -> bool
-    ensures { result ≡ true → (formula t.now.c ≡ Leaf C) × (formula t.now.e ≡ Leaf (held_atom wide))
-        × (formula t.now.d ≡ Leaf (start_atom cells)) × (formula t.now.f ≡ Leaf (open_atom wide)) }
-{
-    let start = match cells {
-        Op::Add => Atom::Zero,
-        Op::Max => Atom::NegInf,
-        Op::Min => Atom::PosInf,
-    };
-    let held = if wide { Atom::E } else { Atom::Zero };
-    let open = if wide { Atom::PosInf } else { Atom::Zero };
-    is_word(&t.c, Atom::C) && is_word(&t.e, held) && is_word(&t.d, start) && is_word(&t.f, open)
-}
-
-/// The operator by which a move takes in cells where it makes this of D.
-fn cells_of(d: &Expr) -> Option<Op> {
-    match d {
-        Expr::Zero => Some(Op::Add),
-        Expr::NegInf => Some(Op::Max),
-        Expr::PosInf => Some(Op::Min),
-        _ => None,
-    }
-}
-
-/// The emission that a move is, if it is one: the operators of its ranges and of its cells.
-fn emission_of(t: &Turn, wide: bool) -> Option<(Op, Op)>
-    ensures { IfSome result (λ p. ((move_of t.now).to ≡ emission wide p.0 p.1) × (wide ≡ true → p.1 ≡ Max)) }
-{
-    let cells = cells_of(&t.d)?;
-    let o = ranges_of(&t.r, wide, cells)?;
-    if is_reset(t, wide, cells) {
-        Some((o, cells))
-    } else {
-        None
-    }
-}
 
 /// Whether sums of R and what is found stay small.
 #[inline(always)]
@@ -326,9 +208,10 @@ fn take_begun<const N: usize>(
     }
 }
 
-/// Takes in a move as an emission, if it is one.
+/// Takes in a move as an emission, if it is one, by its operators.
 fn take_emission<const N: usize>(
     turn: &Turn,
+    operators: Option<Operators>,
     on: On,
     t: &Between<'_, N>,
     next: &mut [PackedHull<N>],
@@ -336,19 +219,22 @@ fn take_emission<const N: usize>(
     requires covered { IsCovered N t.now }
     requires width { rests is_zero (has_wide N) (move_of turn.now).to ≡ true }
     requires suits { IsMoveFor (sides N) (move_of turn.now) }
+    requires operators { IfSome operators (AreOperatorsOf (has_wide N) (move_of turn.now)) }
     requires next_packed { IsColumn N (count_in t.now.next_values.now) next.old }
     ensures packed { IsColumn N (count_in t.now.next_values.now) next.new }
     ensures moved { result ≡ true → HasMoved N t.now on (move_of turn.now) next.old next.new }
     ensures kept { result ≡ false → next.new ≡ next.old }
 {
-    match emission_of(turn, PackedHull::<N>::is_wide()) {
-        Some((ranges, cells)) => {
-            if is_plain(ranges, t.cover) && are_begun::<PackedHull<N>>(t.before, cells) {
+    match operators {
+        Some(found) => {
+            if is_plain(found.ranges, t.cover)
+                && are_begun::<PackedHull<N>>(t.before, found.cells)
+            {
                 take_begun(
                     Emission {
                         turn,
-                        ranges,
-                        cells,
+                        ranges: found.ranges,
+                        cells: found.cells,
                     },
                     on,
                     t,
@@ -366,6 +252,7 @@ fn take_emission<const N: usize>(
 /// Takes in a move by pairs of values, if it can't be swept: by a loop for its operators, or else by its expressions.
 pub(crate) fn take_by_pairs<const N: usize>(
     turn: &Turn,
+    operators: Option<Operators>,
     on: On,
     t: &Between<'_, N>,
     next: &mut [PackedHull<N>],
@@ -373,11 +260,12 @@ pub(crate) fn take_by_pairs<const N: usize>(
     requires covered { IsCovered N t.now }
     requires width { rests is_zero (has_wide N) (move_of turn.now).to ≡ true }
     requires suits { IsMoveFor (sides N) (move_of turn.now) }
+    requires operators { IfSome operators (AreOperatorsOf (has_wide N) (move_of turn.now)) }
     requires next_packed { IsColumn N (count_in t.now.next_values.now) next.old }
     ensures packed { IsColumn N (count_in t.now.next_values.now) next.new }
     ensures moved { HasMoved N t.now on (move_of turn.now) next.old next.new }
 {
-    if take_emission(turn, on, t, next) {
+    if take_emission(turn, operators, on, t, next) {
         return;
     }
     take_listed(AnyMove { turn }, on, t, next);

@@ -16,6 +16,7 @@ ghost use Rattle.ts_row.specs.declared.plan.Equals.TheVariants.{WithGreater, Wit
 ghost use Rattle.ts_sweep.specs.Fronts.{IsNarrowMove};
 ghost use Rattle.ts_sweep.specs.Here.{here_move};
 ghost use Rattle.ts_row.specs.Plans.{
+  IsMovePlan,
   IsPlanOf,
   IsShapeOf,
   IsStatePlan,
@@ -31,6 +32,7 @@ ghost use Rattle.ts_row.specs.Plans.{
   words_formula,
 };
 
+use crate::emission::{Operators, emission_of};
 use crate::words::{Words, is_same_turn, is_words, words_of};
 use ts_automaton::{Atom, Automaton, Expr, Op, State, Turn};
 use ts_base::Letter;
@@ -86,12 +88,19 @@ pub(crate) enum Equals {
     WithGreater,
 }
 
+/// How a move is taken in: its shape, and its operators if it is an emission. Those serve where no sweep does.
+#[derive(Clone, Copy)]
+pub(crate) struct MovePlan {
+    pub(crate) shape: Shape,
+    pub(crate) operators: Option<Operators>,
+}
+
 /// How the moves of a state are taken in.
 #[derive(Clone, Copy)]
 pub(crate) struct StatePlan {
-    pub(crate) less: Shape,
-    pub(crate) equal: Shape,
-    pub(crate) greater: Shape,
+    pub(crate) less: MovePlan,
+    pub(crate) equal: MovePlan,
+    pub(crate) greater: MovePlan,
     pub(crate) equals: Equals,
 }
 
@@ -366,6 +375,19 @@ impl Shape {
     }
 }
 
+impl MovePlan {
+    /// The plan of a move of an automaton of a width, on `=` or else on another letter.
+    fn of(t: &Turn, wide: bool, equal: bool) -> MovePlan
+        requires { rests is_zero wide (move_of t.now).to ≡ true }
+        ensures { IsMovePlan wide result equal (move_of t.now) }
+    {
+        MovePlan {
+            shape: Shape::of(t, wide, equal),
+            operators: emission_of(t, wide),
+        }
+    }
+}
+
 /// The move on a letter.
 fn turn_on(state: &State, l: Letter) -> &Turn
     ensures { move_of result.now ≡ move_on l (node_of state.now) }
@@ -413,9 +435,9 @@ impl StatePlan {
         let greater = turn(a, q, Letter::Greater);
         let equals = equals_of(less, equal, greater);
         StatePlan {
-            less: Shape::of(less, a.wide(), false),
-            equal: Shape::of(equal, a.wide(), true),
-            greater: Shape::of(greater, a.wide(), false),
+            less: MovePlan::of(less, a.wide(), false),
+            equal: MovePlan::of(equal, a.wide(), true),
+            greater: MovePlan::of(greater, a.wide(), false),
             equals,
         }
     }
@@ -426,10 +448,14 @@ impl Plan {
     pub fn of(a: &Automaton) -> Plan
         ensures { IsPlanOf a.now result }
     {
+        let unplanned = MovePlan {
+            shape: Shape::Other,
+            operators: None,
+        };
         let rest = StatePlan {
-            less: Shape::Other,
-            equal: Shape::Other,
-            greater: Shape::Other,
+            less: unplanned,
+            equal: unplanned,
+            greater: unplanned,
             equals: Equals::Alone,
         };
         let mut states = [rest; 8];

@@ -5,21 +5,19 @@ ghost use Rattle.ts_automaton.specs.Body.{move_of};
 ghost use Rattle.ts_automaton.specs.Formula.{is_zero};
 ghost use Rattle.ts_automaton.specs.Registers.{rests};
 ghost use Rattle.ts_base.specs.declared.letter.Letter.TheVariants.{Equal};
-ghost use Rattle.ts_hull.specs.Cuts.{cut_of};
 ghost use Rattle.ts_hull.specs.Sealed.{move_at};
-ghost use Rattle.ts_row.specs.Plans.{IsPlanOf, IsShapeOf, IsStatePlan, cut_at, is_equal};
+ghost use Rattle.ts_row.specs.Plans.{IsMovePlan, IsPlanAt, IsPlanOf, IsStatePlan, is_equal};
 ghost use Rattle.ts_row.specs.Rows.{HasTaken, IsColumn, IsRow, hull_in, lanes_of, next_hull, nothing, seen_gives};
 ghost use Rattle.ts_row.specs.Takings.{HasMoved, HasTakenAt, IsCovered, count_in, taken_to, two_taken_to, value_in};
 ghost use Rattle.ts_sweep.specs.Columns.{hull_at};
 ghost use Rattle.ts_sweep.specs.Fronts.{IsMoveFor};
-ghost use Rattle.ts_sweep.specs.Here.{here_move};
 ghost use Rattle.ts_sweep.specs.Sides.{has_wide, lane_count, seen_hull, sides};
 
 use crate::between::{Between, On};
 use crate::cell::Cell;
 use crate::packed_row::PackedRow;
 use crate::pair_shapes::take_by_pairs;
-use crate::plan::{Equals, Plan, Shape, StatePlan, turn};
+use crate::plan::{Equals, MovePlan, Plan, Shape, StatePlan, turn};
 use crate::row_view::RowView;
 use crate::shapes::take_shape;
 use std::alloc::Global;
@@ -32,11 +30,11 @@ use ts_sweep::hull::Hull;
 use ts_sweep::packed::PackedHull;
 use ts_sweep::swept::take_swept;
 
-/// A move, with its shape and the letter on which it is taken in.
+/// A move, with its plan and the letter on which it is taken in.
 #[derive(Clone, Copy)]
 struct Planned<'a> {
     turn: &'a Turn,
-    shape: &'a Shape,
+    plan: &'a MovePlan,
     on: On,
 }
 
@@ -47,24 +45,23 @@ fn planned_move<'a, const N: usize>(
     q: u8,
     letter: Letter,
     twin: bool,
-    shape: &'a Shape,
+    plan: &'a MovePlan,
 ) -> Planned<'a>
     requires width { a.now.wide ≡ has_wide N }
     requires state { q < length a.now.states }
     requires alone { letter ≡ Equal → twin ≡ false }
-    requires shape { IsShapeOf a.now.wide shape.now (cut_at a.now q letter) }
+    requires plan { IsPlanAt a.now q letter plan.now }
     ensures value { move_of result.turn.now ≡ move_at a.now q letter }
     ensures leads { result.turn.now.next < length a.now.states }
     ensures rests { rests is_zero (has_wide N) (move_of result.turn.now).to ≡ true }
     ensures suits { IsMoveFor (sides N) (move_of result.turn.now) }
-    ensures shape { IsShapeOf (has_wide N) result.shape.now
-        (cut_of (here_move (is_equal result.on.letter) (move_of result.turn.now))) }
+    ensures plan { IsMovePlan (has_wide N) result.plan.now (is_equal result.on.letter) (move_of result.turn.now) }
     ensures letter { result.on.letter ≡ letter }
     ensures twin { result.on.twin ≡ twin }
 {
     Planned {
         turn: turn(a, q, letter),
-        shape,
+        plan,
         on: On { letter, twin },
     }
 }
@@ -79,7 +76,7 @@ fn take_tree<const N: usize>(m: Planned<'_>, t: &Between<'_, N>, next: &mut [Pac
     ensures moved { result ≡ true → HasMoved N t.now m.entry.on (move_of m.entry.turn.now) next.old next.new }
     ensures kept { result ≡ false → next.new ≡ next.old }
 {
-    match (m.on.letter, *m.shape) {
+    match (m.on.letter, m.plan.shape) {
         (_, Shape::Pairs) => false,
         (Letter::Equal, _) => take_equal::<PackedHull<N>, &Cell<'_>, &Cell<'_>>(
             m.turn,
@@ -107,7 +104,7 @@ fn take_tree<const N: usize>(m: Planned<'_>, t: &Between<'_, N>, next: &mut [Pac
 #[inline(never)]
 fn take_other<const N: usize>(
     turn: &Turn,
-    shape: &Shape,
+    plan: &MovePlan,
     on: On,
     t: &Between<'_, N>,
     next: &mut [PackedHull<N>],
@@ -115,14 +112,15 @@ fn take_other<const N: usize>(
     requires covered { IsCovered N t.now }
     requires width { rests is_zero (has_wide N) (move_of turn.now).to ≡ true }
     requires suits { IsMoveFor (sides N) (move_of turn.now) }
+    requires plan { IsMovePlan (has_wide N) plan.now (is_equal on.letter) (move_of turn.now) }
     requires next_packed { IsColumn N (count_in t.now.next_values.now) next.old }
     ensures packed { IsColumn N (count_in t.now.next_values.now) next.new }
     ensures moved { HasMoved N t.now on (move_of turn.now) next.old next.new }
 {
-    if take_tree(Planned { turn, shape, on }, t, next) {
+    if take_tree(Planned { turn, plan, on }, t, next) {
         return;
     }
-    take_by_pairs(turn, on, t, next);
+    take_by_pairs(turn, plan.operators, on, t, next);
 }
 
 /// Takes a move into a column: by the sweep of its shape, or else in another way.
@@ -130,16 +128,15 @@ fn take_turn<const N: usize>(m: Planned<'_>, t: &Between<'_, N>, next: &mut [Pac
     requires covered { IsCovered N t.now }
     requires width { rests is_zero (has_wide N) (move_of m.turn.now).to ≡ true }
     requires suits { IsMoveFor (sides N) (move_of m.turn.now) }
-    requires shape { IsShapeOf (has_wide N) m.shape.now
-        (cut_of (here_move (is_equal m.on.letter) (move_of m.turn.now))) }
+    requires plan { IsMovePlan (has_wide N) m.plan.now (is_equal m.on.letter) (move_of m.turn.now) }
     requires next_packed { IsColumn N (count_in t.now.next_values.now) next.old }
     ensures packed { IsColumn N (count_in t.now.next_values.now) next.new }
     ensures moved { HasMoved N t.now m.entry.on (move_of m.entry.turn.now) next.old next.new }
 {
-    if take_shape(*m.shape, m.on, t, next) {
+    if take_shape(m.plan.shape, m.on, t, next) {
         return;
     }
-    take_other(m.turn, m.shape, m.on, t, next);
+    take_other(m.turn, m.plan, m.on, t, next);
 }
 
 /// Takes a move into the column of the state that it leads to, of columns that lie one after another, each with room
@@ -153,8 +150,7 @@ fn take_at<const N: usize>(
     requires covered { IsCovered N t.now }
     requires width { rests is_zero (has_wide N) (move_of m.turn.now).to ≡ true }
     requires suits { IsMoveFor (sides N) (move_of m.turn.now) }
-    requires shape { IsShapeOf (has_wide N) m.shape.now
-        (cut_of (here_move (is_equal m.on.letter) (move_of m.turn.now))) }
+    requires plan { IsMovePlan (has_wide N) m.plan.now (is_equal m.on.letter) (move_of m.turn.now) }
     requires inside { m.turn.now.next * stride + count_in t.now.next_values.now ≤ length hulls.old }
     requires packed { IsColumn N (count_in t.now.next_values.now) (slice_range hulls.old (m.turn.now.next * stride)
         (m.turn.now.next * stride + count_in t.now.next_values.now)) }
@@ -171,7 +167,7 @@ fn take_at<const N: usize>(
 #[inline(never)]
 fn take_move<const N: usize>(
     turn: &Turn,
-    shape: &Shape,
+    plan: &MovePlan,
     on: On,
     t: &Between<'_, N>,
     next: &mut PackedRow<N>,
@@ -179,15 +175,14 @@ fn take_move<const N: usize>(
     requires covered { IsCovered N t.now }
     requires width { rests is_zero (has_wide N) (move_of turn.now).to ≡ true }
     requires suits { IsMoveFor (sides N) (move_of turn.now) }
-    requires shape { IsShapeOf (has_wide N) shape.now
-        (cut_of (here_move (is_equal on.letter) (move_of turn.now))) }
+    requires plan { IsMovePlan (has_wide N) plan.now (is_equal on.letter) (move_of turn.now) }
     requires leads { turn.now.next < length next.old }
     requires row { IsRow N (length next.old) (count_in t.now.next_values.now) next.old }
     ensures row { IsRow N (length next.old) (count_in t.now.next_values.now) next.new }
     ensures taken { HasTaken N (length next.old) (count_in t.now.next_values.now) (value_in t.now.next_values.now)
         (taken_to N t.now on (move_of turn.now)) next.old next.new }
 {
-    let m = Planned { turn, shape, on };
+    let m = Planned { turn, plan, on };
     take_at(m, t, next.stride, &mut next.hulls);
 }
 
@@ -201,12 +196,10 @@ fn take_two<const N: usize>(
     requires covered { IsCovered N t.now }
     requires width { rests is_zero (has_wide N) (move_of m.turn.now).to ≡ true }
     requires suits { IsMoveFor (sides N) (move_of m.turn.now) }
-    requires shape { IsShapeOf (has_wide N) m.shape.now
-        (cut_of (here_move (is_equal m.on.letter) (move_of m.turn.now))) }
+    requires plan { IsMovePlan (has_wide N) m.plan.now (is_equal m.on.letter) (move_of m.turn.now) }
     requires other_width { rests is_zero (has_wide N) (move_of k.turn.now).to ≡ true }
     requires other_suits { IsMoveFor (sides N) (move_of k.turn.now) }
-    requires other_shape { IsShapeOf (has_wide N) k.shape.now
-        (cut_of (here_move (is_equal k.on.letter) (move_of k.turn.now))) }
+    requires other_plan { IsMovePlan (has_wide N) k.plan.now (is_equal k.on.letter) (move_of k.turn.now) }
     requires leads { m.turn.now.next < length next.old }
     requires other_leads { k.turn.now.next < length next.old }
     requires row { IsRow N (length next.old) (count_in t.now.next_values.now) next.old }
@@ -215,8 +208,8 @@ fn take_two<const N: usize>(
         (two_taken_to N t.now m.entry.on (move_of m.entry.turn.now) k.entry.on
         (move_of k.entry.turn.now)) next.old next.new }
 {
-    take_move(m.turn, m.shape, m.on, t, next);
-    take_move(k.turn, k.shape, k.on, t, next);
+    take_move(m.turn, m.plan, m.on, t, next);
+    take_move(k.turn, k.plan, k.on, t, next);
 }
 
 /// Takes all moves of a state into the row. In most states the move on `=` is the same as another, and is taken in with
@@ -256,7 +249,7 @@ fn take_moves<const N: usize>(
             let equal = planned_move::<N>(a, q, Letter::Equal, false, &plan.equal);
             let greater = planned_move::<N>(a, q, Letter::Greater, false, &plan.greater);
             take_two(less, equal, t, next);
-            take_move(greater.turn, greater.shape, greater.on, t, next);
+            take_move(greater.turn, greater.plan, greater.on, t, next);
         }
     }
 }

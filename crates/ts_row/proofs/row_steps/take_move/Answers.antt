@@ -22,7 +22,7 @@ take_at-requires g c =
             (
               c.requires.suits,
               (
-                c.requires.shape,
+                c.requires.plan,
                 (
                   lent_inside s.states s.stride s.count k s.hulls.items c.deref_mut.result.now c.args.next.now r c.next.invariant.0 c.next.invariant.1
                       c.next.view_is c.requires.leads c.deref_mut.ensures.value same,

@@ -9,7 +9,7 @@ pub returns-then-take_shape-clause-moved : goal.returns-then-take_shape-clause-m
 returns-then-take_shape-clause-moved g c =
     let m = move_of c.args.m.turn.now in
     moved_read _ c.args.t.now c.args.m.on m _ _
-    (c.take_shape.ensures.taken c.if-take_shape.true (here_move (is_equal c.args.m.on.letter) m) c.requires.shape)
+    (c.take_shape.ensures.taken c.if-take_shape.true (here_move (is_equal c.args.m.on.letter) m) c.requires.plan.shape)
 
 pub returns-clause-moved : goal.returns-clause-moved
 returns-clause-moved g c =
