@@ -32,25 +32,6 @@ use Rattle.ts_checker.proofs.Verdicts.{one_line_more, stopped_against}
 none_small : (kept : List ℕ) → kept ≡ [] → IsSmall kept
 none_small kept empty = let size = ap length empty in omega (arith, size)
 
-pub none_judged : (m : ModelParts) (j : Judging) → j.checker ≡ first_checking m → j.line.bytes.items ≡ [] → length m.cells ≤ 512 →
-    HasChecked [] j.checker → HasRead [] j
-none_judged m j is empty few h = record {
-  seen = [];
-  texts = [];
-  line = [];
-  parts = refl;
-  lines = λ more. refl;
-  ended = refl;
-  free = refl;
-  judged = record {
-    checked = h;
-    few = subst (λ (z : Checking). length z.model.cells ≤ 512) (sym is) few;
-  };
-  kept = λ e. inl empty;
-  small = none_small j.line.bytes.items empty;
-  dropped = λ e. empty;
-}
-
 -- lines are no more than bytes
 
 next_reads : (r : Reading) (texts : List (List ℕ)) → (reading_after r texts).next ≤ r.next + length texts

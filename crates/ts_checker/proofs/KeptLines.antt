@@ -65,13 +65,6 @@ shorter short kept line k (inr h) = inr (record {
       (k.alike more s few) (h.alike more s few);
 })
 
-pub extended : (old part new : List ℕ) → new ≡ old ++ part → Extends old part new
-extended old part new is = λ line h. subst (λ (x : List ℕ). IsKeptOf x (line ++ part)) (sym is) (longer old line part h)
-
-pub extended_short : (old part mid lent new : List ℕ) → mid ≡ old ++ part → lent ≡ mid → Shortens lent new → Extends old part new
-extended_short old part mid lent new is same h = λ line k.
-    shorter new mid (line ++ part) (subst (λ (x : List ℕ). Shortens x new) same h) (extended old part mid is line k)
-
 -- an empty line is kept as it is
 
 pub none_kept_of : (kept line : List ℕ) → length kept ≡ 0 → IsKeptOf kept line → length line ≡ 0

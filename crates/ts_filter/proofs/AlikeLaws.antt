@@ -124,9 +124,6 @@ module _ (asked : Question) where
 
 -- the question whether each requirement of a term is met
 
-pub asks_each : (own : TermRequirements) → AsksEach own (MeetsEach own)
-asks_each own = record { excludes = λ s. (λ h. h, λ h. h); alike = λ s t h. h }
-
 -- where there is only one
 pub asks_only : (own : TermRequirements) (r : Require) → ((s : Span) → Refutes r.op r.bound s ↔ RefutesSome own.all.now own.term s) →
     ((other : Require) → Contains own.all.now other → other.term ≡ own.term → other ≡ r) → AsksEach own (Compares r.op r.bound)

@@ -26,10 +26,6 @@ module _ (a : Automata) (Excluded : Span → Type 0) (b : Box) (looks : LooksIn 
       by_test true e = inl (looked_bounds a.window (length b) q early.usable.from early.usable.to e)
       by_test false e = inr (outside q early e)
 
-  -- no cell comes before the first
-  pub none_before_one : (first : ℕ) → first ≡ first_looked a.window → first ≤ 1 → NoneBefore a Excluded b (first_looked a.window)
-  none_before_one first is le q early = let from = early.usable.from in omega (arith, is, le, from)
-
   -- where the last one isn't excluded, no cell outside is
   pub none_outside : (Excluded (term_span a (last_looked a.window (length b)) b) → ⊥) → NoneBefore a Excluded b (first_looked a.window)
   none_outside none q early = ⊎_elim (λ in_window. in_window.0) (λ ex. absurd (none ex)) (between q early)

@@ -88,9 +88,6 @@ module _ (goal : Goal) (end : ℤ → Ext) (all : List ℤ) where
     from_left : (u : ℤ) → Contains left u → (v ≡ u) ⊎ Contains rest u
     from_left u c = (contains_cons v rest u).0 (subst (λ z. Contains z u) e c)
 
-    pub this_inside : Contains all v
-    this_inside = h.inside v first_left
-
     pub kept_changes : is_better goal (end v) (end kept) ≡ true → IsSoFar goal end all rest v
     kept_changes f =
         let r = rising_parts v rest (subst IsRising e h.rises) in

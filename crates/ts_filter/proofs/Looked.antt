@@ -29,11 +29,6 @@ pub hulls_inside : (a : Automata) (b : Box) (k : ℕ) → LooksIn a b → HasCel
     HasHulls a k b
 hulls_inside a b k looks c usable e = read_hulls a b k k looks c usable (sym (read_inside a.window k e))
 
--- at the last of these cells
-pub hulls_last : (a : Automata) (b : Box) → LooksIn a b → first_looked a.window ≤ last_looked a.window (length b) →
-    HasHulls a (last_looked a.window (length b)) b
-hulls_last a b looks some = record { looks = looks; from = some; to = omega arith; last = λ e. refl }
-
 -- the span with a value at a cell that is looked at is read inside
 pub value_looked : (a : Automata) (k : ℕ) (b : Box) (v : ℤ) → is_looked a.window k ≡ true →
     value_span a k b v ≡ inner_value_span a (place_in a.window k) (looked_at a.window b) v

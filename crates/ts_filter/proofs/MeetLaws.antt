@@ -321,11 +321,3 @@ split_there (Some p) b e = refl
 pub side_there : (o : Option Pair) (behind : Box) (values : List ℤ) (side : BackSide) → IsSide o behind values side → IsSome o
 side_there None behind values side h = absurd h
 side_there (Some p) behind values side h = refl
-
-pub has_joints : (o : Option Pair) (j : Joints) → IfSome o (λ p. AreJoints p j) → HasJoints o (Some j)
-has_joints None j h = tt
-has_joints (Some p) j h = h
-
-pub no_joints : (o : Option Pair) → None ≡ option_map (λ q. q.reverse) o → HasJoints o None
-no_joints None e = tt
-no_joints (Some p) e = cc

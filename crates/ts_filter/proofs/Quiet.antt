@@ -167,9 +167,3 @@ module _ (own : TermRequirements) (rs : List Require) (term : ℕ) (is_all : own
         let quiet : (r : Require) → Contains u.quiet r → IsQuiet t.machine (looked_at t.machine.window b) r =
         subst (λ (a : Automata). (r : Require) → Contains u.quiet r → IsQuiet a (looked_at a.window b) r) still.machine still.known.quiet in
         found_of t.machine b None (none_where_quiet own.all.now own.term t.machine b looks u.quiet outside none among quiet refuted)
-
-    pub still_where_none : (v : KnownRows) → IsFirstOf (IsTermDrop own.all.now own.term u.machine b) None → KnownWhereNone own.all.now own.term u v →
-        StillKnown b t v
-    still_where_none v none h =
-        let s = h b (subst (λ (a : Automata). LooksIn a b) (sym still.machine) looks) none still.known in
-        record { machine = s.machine ∙ still.machine; known = s.known }

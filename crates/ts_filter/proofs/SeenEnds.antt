@@ -244,58 +244,6 @@ module _ (ends : Sides) (mark : Mark) (n : ℕ) (w : Ext) where
   pub serves_as_little : IsServed ends mark n (Compares AtMost w) → IsServed ends mark n (Counts Minimise (AsGood w))
   serves_as_little = served_to_count ends mark n AtMost Minimise w (AsGood w) (λ v. not_not (ext_le v w))
 
--- the best number is told by the end that is best, under no mark
-
-same_marked : (n : ℕ) (s : Span) → has_some s ≡ true → marked_span Same n s ≡ s
-unfolding least_span
-same_marked n s some =
-    ap (λ t. cond t (span_hull (one_span s.lo) (one_span s.hi)) none_span) some
-    ∙ hull_both (one_span s.lo) (one_span s.hi) (one_some s.lo) (one_some s.hi)
-    ∙ ap (λ t. span_from (cond t s.lo s.hi) (cond t s.hi s.lo)) some
-
-none_marked : (n : ℕ) (s : Span) → has_some s ≡ false → marked_span Same n s ≡ none_span
-none_marked n s none = ap (λ t. cond t (span_hull (one_span s.lo) (one_span s.hi)) none_span) none
-
--- the best end of a hull depends on the best ends of its parts
-best_of_hull : (goal : Goal) (u s t : Span) → has_some s ≡ true → has_some t ≡ true → best_end goal s ≡ best_end goal t →
-    best_end goal (span_hull u s) ≡ best_end goal (span_hull u t)
-best_of_hull goal u s t e f same = go (has_some u) refl
-  where
-    ends_of : (goal : Goal) → best_end goal s ≡ best_end goal t → best_end goal (both_hull u s) ≡ best_end goal (both_hull u t)
-    ends_of Maximise same = ap (ext_max u.hi) same
-    ends_of Minimise same = ap (ext_min u.lo) same
-
-    hull : Bool → Bool → Span → Span
-    hull a b z = cond a (cond b (both_hull u z) u) (cond b z none_span)
-
-    go : (a : Bool) → has_some u ≡ a → best_end goal (hull a (has_some s) s) ≡ best_end goal (hull a (has_some t) t)
-    go true some =
-        ap (λ b. best_end goal (hull true b s)) e ∙ ends_of goal same ∙ sym (ap (λ b. best_end goal (hull true b t)) f)
-    go false none = ap (λ b. best_end goal (hull false b s)) e ∙ same ∙ sym (ap (λ b. best_end goal (hull false b t)) f)
-
--- what is seen of a span has its best end
-abbrev HasBest : Sides → Goal → Type 0
-HasBest ends goal = (s : Span) → has_some s ≡ true → best_end goal (seen ends s) ≡ best_end goal s
-
-served_to_rank : (ends : Sides) (goal : Goal) (n : ℕ) → HasBest ends goal → IsServed ends Same n (Ranks goal)
-served_to_rank ends goal n best s u = go (has_some s) refl
-  where
-    go : (t : Bool) → has_some s ≡ t →
-        best_end goal (span_hull u (marked_span Same n (seen ends s))) ≡ best_end goal (span_hull u (marked_span Same n s))
-    go true some =
-        let told = some_seen ends s ∙ some in
-        ap (λ z. best_end goal (span_hull u z)) (same_marked n (seen ends s) told)
-        ∙ best_of_hull goal u (seen ends s) s told some (best s some)
-        ∙ sym (ap (λ z. best_end goal (span_hull u z)) (same_marked n s some))
-    go false none =
-        ap (λ z. best_end goal (span_hull u z)) (none_marked n (seen ends s) (some_seen ends s ∙ none) ∙ sym (none_marked n s none))
-
-pub serves_greatest : (n : ℕ) → IsServed UpperEnds Same n (Ranks Maximise)
-serves_greatest n = served_to_rank UpperEnds Maximise n (λ s some. ap (λ t. best_end Maximise (cond t (span_from NegInf s.hi) none_span)) some)
-
-pub serves_least : (n : ℕ) → IsServed LowerEnds Same n (Ranks Minimise)
-serves_least n = served_to_rank LowerEnds Minimise n (λ s some. ap (λ t. best_end Minimise (cond t (span_from s.lo PosInf) none_span)) some)
-
 -- both ends are enough for every question
 
 pub alike_self : (asked : Question) (s : Span) → AreAlike asked s s
@@ -303,37 +251,3 @@ alike_self (Compares op bound) s = (λ h. h, λ h. h)
 alike_self (MeetsEach own) s = λ r there of_term. (λ h. h, λ h. h)
 alike_self (Counts goal bar) s = (λ h. h, λ h. h)
 alike_self (Ranks goal) s = refl
-
-pub serves_all : (mark : Mark) (n : ℕ) (asked : Question) → IsServed BothEnds mark n asked
-serves_all mark n asked s u = alike_self asked (span_hull u (marked_span mark n s))
-
--- a number in the place of an infinity, on the same side of the bound
-
-zero_under : (b : ℤ) → pos 0 <ℤ b → int_le b (pos 0) ≡ false
-zero_under b l = grind (arith, ints)
-
-cells_over : (b x : ℤ) → b <ℤ x → int_le x b ≡ false
-cells_over b x l = grind (arith, ints)
-
-at_most_so : (x y : ℤ) → x ≤ℤ y → int_le x y ≡ true
-at_most_so x y l = grind (arith, ints)
-
-pub keeps_up_to_zero : (n : ℕ) (b : ℤ) → pos 0 <ℤ b → MarkKeeps Zero n AtLeast (Int b)
-keeps_up_to_zero n b l NegInf = zero_under b l
-keeps_up_to_zero n b l (Int x) = refl
-keeps_up_to_zero n b l PosInf = refl
-
-pub keeps_up_to_cells : (n : ℕ) (b : ℤ) → b ≤ℤ pos n → MarkKeeps Cells n AtLeast (Int b)
-keeps_up_to_cells n b l NegInf = refl
-keeps_up_to_cells n b l (Int x) = refl
-keeps_up_to_cells n b l PosInf = at_most_so b (pos n) l
-
-pub keeps_beyond_zero : (n : ℕ) (b : ℤ) → pos 0 ≤ℤ b → MarkKeeps Zero n Above (Int b)
-keeps_beyond_zero n b l NegInf = ap not (at_most_so (pos 0) b l)
-keeps_beyond_zero n b l (Int x) = refl
-keeps_beyond_zero n b l PosInf = refl
-
-pub keeps_beyond_cells : (n : ℕ) (b : ℤ) → b <ℤ pos n → MarkKeeps Cells n Above (Int b)
-keeps_beyond_cells n b l NegInf = refl
-keeps_beyond_cells n b l (Int x) = refl
-keeps_beyond_cells n b l PosInf = ap not (cells_over b (pos n) l)

@@ -141,10 +141,6 @@ pub alone_best : (s t : SoFar) (goal : Goal) (part : Span) → s.asked ≡ Ranks
     WithParts s (part ∷ []) (Some t) → best_end goal t.span ≡ best_end goal part
 alone_best s t goal part same e can h = alike_alone (Ranks goal) t.span part h.2.form can (alone_found s (Ranks goal) part same e t h)
 
--- whose best end is asked for, that excludes nothing
-pub never_stops : (s : SoFar) (goal : Goal) (part : Span) → s.asked ≡ Ranks goal → WithParts s (part ∷ []) None → ⊥
-never_stops s goal part same stop = stop (subst (λ a. Excludes a (span_hull s.span part)) (sym same) tt)
-
 -- the span of a value has its one form, and so has that of a cell
 
 inner_canonical : (m : Automata) (k : ℕ) (b : Box) (v : ℤ) → IsCanonical (inner_value_span m k b v)
@@ -177,27 +173,6 @@ module _ (known : SoFar) (asked : Question) (f : ℤ → Span) (values : List �
       let front = span_of_all (map f (take i values)) in
       subst (FindsAlike asked (span_hull known.span (f w))) (span_more f values i v front (f w) (span_hull front (f w)) lt e (ap f is) refl refl)
       (finds_with asked known.span front (f w) so_far)
-
-  pub value_more : (more : SoFar) (v w : ℤ) → i < length values → slice_get values i ≡ Some v → w ≡ v → WithParts known (f w ∷ []) (Some more) →
-      (more.asked ≡ asked) × FindsAlike asked more.span (span_of_all (map f (take (i + 1) values))) × IsSoFar more
-  value_more more v w lt e is h = (
-    h.0 ∙ same,
-    finds_on asked more.span (span_hull known.span (f w)) (span_of_all (map f (take (i + 1) values)))
-        (subst (λ a. FindsAlike a more.span (span_hull known.span (f w))) same h.1) (both_found v w lt e is),
-    h.2,
-  )
-
-  pub value_stops : (v w : ℤ) → i < length values → slice_get values i ≡ Some v → w ≡ v → WithParts known (f w ∷ []) None → Excludes asked whole → ⊥
-  value_stops v w lt e is stop none =
-      let both = span_hull known.span (f w) in
-      let front = map f (take (i + 1) values) in let rest = map f (drop (i + 1) values) in
-      let split : map f values ≡ front ++ rest =
-      ap (map f) (sym (take-append-drop (i + 1) values)) ∙ map-append f (take (i + 1) values) (drop (i + 1) values) in
-      let none_here : Excludes asked (span_of_all (front ++ rest)) =
-      subst (λ l. Excludes asked (span_of_all l)) split (subst (Excludes asked) all none) in
-      stop (subst (λ a. Excludes a both) (sym same)
-      (excludes_found asked (span_of_all front) both (finds_back asked both (span_of_all front) (both_found v w lt e is))
-      (part_excludes asked (span_of_all front) (span_of_all (front ++ rest)) (front_within none_span front rest) none_here)))
 
   pub values_done : IsSoFar known → length values ≤ i → IsWholeSpan asked whole (Some known)
   values_done h done =

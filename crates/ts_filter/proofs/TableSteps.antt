@@ -51,17 +51,6 @@ lower : (m n : ℕ) → m ≤ n → (m ≡ n → ⊥) → m < n
 lower m n l ne = grind (arith, l, ne)
 
 module _ (b : Box) (t : KnownRows) (k : ℕ) (h : HasHulls t.machine k b) where
-  -- the rows that are wanting of the cell
-  pub rows_there : k - first_looked t.machine.window + 1 ≤ length t.ahead →
-      (k < last_looked t.machine.window (length b) → last_looked t.machine.window (length b) - k + 1 ≤ length t.behind) → HasRows k b t
-  rows_there ahead behind =
-      let is = place_is t.machine k b h in let first = (ends_inside t.machine.window (length b) h.looks).0 in let from = h.from in
-      let rest = place_behind t.machine k b h in
-      record {
-        ahead = omega (arith, ahead, is, first, from);
-        behind = λ lt. (let more = behind (omega (arith, lt, rest)) in omega (arith, more, rest));
-      }
-
   -- they are so many
   pub ahead_count : k - first_looked t.machine.window + 1 ≤ length (looked_at t.machine.window b)
   ahead_count =
@@ -135,16 +124,8 @@ module _ (b : Box) (t : KnownRows) (k : ℕ) (h : HasHulls t.machine k b) where
 
 -- tables with enough ends for a question
 
-pub turned_known : (b : Box) (old new : KnownRows) → new.machine ≡ old.machine → ((cells : Box) → AreRowsOf cells new) → StillKnown b old new
-turned_known b old new machine known = record { machine = machine; known = known (looked_at new.machine.window b) }
-
 abbrev pub IsServedBy : Form → Automata → Box → Question → Type 0
 IsServedBy f a b asked = IsServed (form_sides f) a.forward.mark (count_looked a.window (length b)) asked
-
-pub served_as : (f : Form) (a : Automata) (b : Box) (asked : Question) (mark : Mark) (n : ℕ) → mark ≡ a.forward.mark →
-    n ≡ count_looked a.window (length b) → IsServed (form_sides f) mark n asked → IsServedBy f a b asked
-served_as f a b asked mark n is count h =
-    subst (λ m. IsServed (form_sides f) m (count_looked a.window (length b)) asked) is (subst (λ k. IsServed (form_sides f) mark k asked) count h)
 
 pub still_served : (b : Box) (asked : Question) (old new : KnownRows) (f : Form) → new.machine ≡ old.machine → new.form ≡ f →
     IsServedBy f old.machine b asked → IsServedBy new.form new.machine b asked

@@ -74,39 +74,6 @@ by_gist line = go (is_text line)
 pub same_gives : (given line : List ℕ) → StandsFor given line → IsLine line → line_gives (without_end given) ≡ line_gives (without_end line)
 same_gives given line same is = by_gist (without_end given) ∙ ap gist_gives (same_gist given line same is) ∙ sym (by_gist (without_end line))
 
--- a line gives what its only word gives
-
-abbrev by_single : Single → Option (List ℤ)
-by_single NotText = None
-by_single Blank = Some []
-by_single (Word text) = option_map (λ v. v ∷ []) (value_of text.now)
-by_single More = None
-
-pub single_gives : (s : Single) (line : List ℕ) → IsSingle s line → line_gives line ≡ by_single s
-single_gives NotText line h = ap (λ t. cond t (words_give (words_of line)) None) h
-single_gives Blank line h =
-    ap (λ t. cond t (words_give (words_of line)) None) h.0 ∙ ap (λ t. cond t (Some []) (only_value (words_of line))) h.1
-single_gives (Word text) line h =
-    ap (λ t. cond t (words_give (words_of line)) None) h.0 ∙ ap (λ t. cond t (Some []) (only_value (words_of line))) h.1 ∙ ap only_value h.3
-single_gives More line h =
-    ap (λ t. cond t (words_give (words_of line)) None) h.0 ∙ ap (λ t. cond t (Some []) (only_value (words_of line))) h.1 ∙ ap only_value h.2.3
-
--- a line that gives nothing, or a reading too many, is bad
-
-pub next_bad : (count : ℕ) (gives : Option (List ℤ)) → None ≡ gives → IsNext count gives Bad
-next_bad count gives e = λ number next. ap (λ g. line_onto count number g next) (sym e)
-
-pub next_past : (count : ℕ) (v : ℤ) (gives : Option (List ℤ)) → Some (v ∷ []) ≡ gives → longest ≤ count → IsNext count gives Bad
-next_past count v gives e many = λ number next.
-    ap (λ g. line_onto count number g next) (sym e) ∙ ap (λ t. cond t (after_values (v ∷ []) (next (count + 1))) (bad_at number)) (no_room count many)
-  where
-    no_room : (n : ℕ) → longest ≤ n → nat_lt n longest ≡ false
-    no_room n many = go (nat_lt n longest) refl
-      where
-        go : (t : Bool) → nat_lt n longest ≡ t → t ≡ false
-        go false e = refl
-        go true e = grind (arith, nat_tests)
-
 -- the readings of a text with a line more
 
 abbrev none_more : ℕ → Readings

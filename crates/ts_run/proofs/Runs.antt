@@ -135,17 +135,6 @@ module _ {S K : Type 0} (s : SourceTells S) (k : SinkTells K) (given : Option Co
       later = omega arith;
     }
 
-    pub refused_run : given ≡ None → Ends refused_words (k.taken sink) (k.taken sink_now) status → (status ≡ Memory → ⊥) →
-        RunEnds s k given source source sink sink_now status
-    refused_run is ends room = record {
-      answers = subst (λ g. CallEnds g (s.left source) (s.left source) (s.faults source) (s.faults source) (k.taken sink) (k.taken sink_now) status) (sym is)
-          ends;
-      takes = subst (λ g. CallTakes g s.left source source status) (sym is) refl;
-      reads = unread;
-      writes = writes;
-      spares = λ e. absurd (room e);
-    }
-
   module _ (command : Command) (is : given ≡ Some command) (ranges : IfSome given KeepsRanges) where
     spared : (input : Input) → input_of command ≡ input → (status ≡ Memory → InputSpares input k sink sink_now) → status ≡ Memory →
         CallSpares given k sink sink_now

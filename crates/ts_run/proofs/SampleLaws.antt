@@ -152,9 +152,6 @@ module _ (n k b : ℕ) (made : ModelParts) (c : Cert) (value : k ≡ n) (range :
     pub first_cells : AreCellValues (view first)
     first_cells = subst AreCellValues (sym first_is) best_here.cells
 
-    pub first_few : length (view first) ≤ 512
-    first_few = subst (λ (z : List ℤ). length z ≤ 512) (sym first_is) best_here.few
-
     pub found_given : (sum : ℤ) (lines : ℕ) (verdict : Verdict) (last r : Reply) (text : List ℕ) (seen : ModelParts) → sum ≡ sum_of (view first) →
         lines ≡ checked_count c.tree → seen ≡ made → text ≡ certificate_text c → IsVerdict seen (strict_lines text) verdict → last ≡ verdict_reply verdict →
         r ≡ record { text = sample_text k v sum lines ++ last.text; status = last.status } → SampleReply n r

@@ -50,9 +50,6 @@ module _ (due : List ℕ → Due) (bytes piece cleared text : List ℕ) (before 
     takes : after ≡ taken_more before text → TakesDue due bytes piece before after
     takes took = (text, put, took)
 
-    pub serves_on : after ≡ taken_more before text → (due (bytes ++ piece)).ended ≡ None → Serves due bytes piece before after None
-    serves_on took unended = (takes took, unended)
-
     pub stops_ended : (given status : Status) → (due (bytes ++ piece)).ended ≡ Some given → Ends (record { text = text; status = given }) before after status →
         (status ≡ Memory → ⊥) → Stops due bytes piece before after status
     stops_ended given Done ended h some = (takes h.0, ended ∙ ap Some h.1)
@@ -71,9 +68,6 @@ module _ (due : List ℕ → Due) (bytes piece cleared text : List ℕ) (before 
 
     owed : IsFront ((due bytes).text ++ text) (due (bytes ++ piece)).text
     owed = subst (λ (t : List ℕ). IsFront ((due bytes).text ++ t) (due (bytes ++ piece)).text) (sym same) h.owed
-
-    pub stops_lines : after ≡ taken_more before text → Stops due bytes piece before after Memory
-    stops_lines took = (text, owed, subst (λ (t : List ℕ). IsLines ((due bytes).text ++ t)) (sym same) h.lines, took)
 
     pub stops_write_lines : Prefix text before after → Stops due bytes piece before after WriteFault
     stops_write_lines p = (

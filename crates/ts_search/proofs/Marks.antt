@@ -312,12 +312,6 @@ AreMetBelow q w term n =
 pub none_below : (q : Problem) (w : Witnesses) (term : ℕ) → AreMetBelow q w term 0
 none_below q w term i r below is on = absurd (omega (arith, below))
 
-pub met_next : (q : Problem) (w : Witnesses) (term n : ℕ) → AreMetBelow q w term n →
-    ((r : Require) → slice_get q.model.now.requirements.items n ≡ Some r → r.term ≡ term → is_shown w (n + 1) ≡ true) → AreMetBelow q w term (n + 1)
-met_next q w term n h one i r below is on =
-    ⊎_elim (λ e. subst (λ z. is_shown w (z + 1) ≡ true) (sym e) (one r (ap (slice_get q.model.now.requirements.items) (sym e) ∙ is) on))
-    (λ apart. h i r (below_split i n below apart) is on) (same_or_other i n)
-
 pub all_below : (q : Problem) (w : Witnesses) (term n : ℕ) → AreMetBelow q w term n → length q.model.now.requirements.items ≤ n → AreMet q w term
 all_below q w term n h few j r is on =
     let below = slice_get_within q.model.now.requirements.items (j - 1) r is.1 in

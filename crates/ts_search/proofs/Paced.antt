@@ -24,9 +24,6 @@ none_ahead q n w e = subst (λ z. AreAhead q z w) (sym e) (go w)
     go [] = tt
     go (b ∷ w) = tt
 
-pub none_splits : (q : Sought) (n : ℕ) (b : Box) → n ≡ 0 → AreSplits q n b
-none_splits q n b e = subst (λ z. AreSplits q z b) (sym e) tt
-
 -- of the first box that waits
 
 pub first_ahead : (q : Sought) (n : ℕ) (old bs : List Box) (b : Box) → AreAhead q n old → bs ≡ old → bs ≡ b ∷ rest bs → AreSplits q n b

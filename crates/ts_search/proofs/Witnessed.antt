@@ -324,10 +324,6 @@ brought w b x k last h is_last end count inside =
     in_box_each x (looked_at w b) count
     (λ i below. inside i (let long = looked_length w b h in let f = (ends_inside w (length b) h).0 in omega (arith, below, long, f, is_last, end)))
 
--- a series of the box has a cell, and few
-pub inside_some : (w : Option Range) (b : Box) (x : List ℤ) → LooksInside (length b) w → 1 ≤ length b → InBox x (looked_at w b) → 1 ≤ length x
-inside_some w b x h some inside = let long = box_length x (looked_at w b) inside in let looked = some_looked w b some h in omega (arith, long, looked)
-
 pub inside_few : (w : Option Range) (b : Box) (x : List ℤ) → LooksInside (length b) w → length b ≤ most_cells → InBox x (looked_at w b) →
     length x ≤ most_cells
 inside_few w b x h few inside = let long = box_length x (looked_at w b) inside in let looked = few_looked w b h in omega (arith, long, looked, few)
