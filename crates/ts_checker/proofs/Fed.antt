@@ -38,7 +38,7 @@ read_on c text = record c { reading = reading_with c.reading text }
 
 -- the line was read and judged
 pub takes_said : (old mid new : Checking) (text : List ℕ) (l : CertLine) (number : ℕ) → mid ≡ read_on old text → answer_to old.reading text ≡ Ok l →
-    number ≡ old.reading.next → new.model ≡ mid.model → new.reading ≡ mid.reading → new.wanting ≡ mid.wanting →
+    number ≡ old.reading.next → new.model ≡ mid.model → new.reading ≡ mid.reading → new.missing ≡ mid.missing →
     TakesOn mid.model (spans_in mid.model) mid.stand mid.failed number l new.stand new.failed → Takes old text new
 takes_said old mid new text l number same answer count model reading calm taken =
     let here : TakesOn old.model (spans_in old.model) old.stand old.failed number l new.stand new.failed =
@@ -48,16 +48,16 @@ takes_said old mid new text l number same answer count model reading calm taken 
       reading = reading ∙ ap (λ (z : Checking). z.reading) same;
       taken = subst (λ a. TakesBy old.model (spans_in old.model) old.stand old.failed old.reading.next a new.stand new.failed) (sym answer)
           (subst (λ n. TakesOn old.model (spans_in old.model) old.stand old.failed n l new.stand new.failed) count here);
-      calm = calm ∙ ap (λ (z : Checking). z.wanting) same;
+      calm = calm ∙ ap (λ (z : Checking). z.missing) same;
     }
 
 -- so a checker whose reader has taken the line
 pub step_judged : (m : ModelParts) (r after : Reading) (t : Stand) (f : Option ℕ) (w : Bool) (old new : Checking) (text : List ℕ) (l : CertLine) (number : ℕ) →
-    ◌≡◌ {A = Checking} (record { model = m; reading = r; stand = t; failed = f; wanting = w }) old → after ≡ reading_with r text → answer_to r text ≡ Ok l →
-    number ≡ r.next → new.model ≡ m → new.reading ≡ after → new.wanting ≡ w → TakesOn m (spans_in m) t f number l new.stand new.failed → Takes old text new
+    ◌≡◌ {A = Checking} (record { model = m; reading = r; stand = t; failed = f; missing = w }) old → after ≡ reading_with r text → answer_to r text ≡ Ok l →
+    number ≡ r.next → new.model ≡ m → new.reading ≡ after → new.missing ≡ w → TakesOn m (spans_in m) t f number l new.stand new.failed → Takes old text new
 step_judged m r after t f w old new text l number is leads answer count model reading calm taken =
-    let from : Checking = record { model = m; reading = r; stand = t; failed = f; wanting = w } in
-    let mid : Checking = record { model = m; reading = after; stand = t; failed = f; wanting = w } in
+    let from : Checking = record { model = m; reading = r; stand = t; failed = f; missing = w } in
+    let mid : Checking = record { model = m; reading = after; stand = t; failed = f; missing = w } in
     subst (λ (z : Checking). Takes z text new) is
     (takes_said from mid new text l number (ap (λ q. record mid { reading = q }) leads) answer count model reading calm taken)
 

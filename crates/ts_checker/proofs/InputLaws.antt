@@ -180,14 +180,14 @@ all_eaten piece rest old new e none =
 
 -- the same by what contracts see of a verifier
 
-module _ (input : Input) (count : ℕ) (wanting : Bool) (v : Verifying)
-    (is : ◌≡◌ {A = Verifying} (record { input = input; count = count; wanting = wanting }) v) where
+module _ (input : Input) (count : ℕ) (missing : Bool) (v : Verifying)
+    (is : ◌≡◌ {A = Verifying} (record { input = input; count = count; missing = missing }) v) where
   pub room_seen : (more : ℕ) → ((bytes : List ℕ) × HasTaken bytes input × (length bytes ≡ count)) → v.count + more < 4000000000 → HasRoomFor input more
   room_seen more some few =
       let same : count ≡ v.count = ap (λ (z : Verifying). z.count) is in (some.0, some.1, omega (arith, some.2, same, few))
 
-  pub unrefused_seen : IsUnrefused input → IsTrue v.wanting ⊎ IsUnrefused v.input
+  pub unrefused_seen : IsUnrefused input → IsTrue v.missing ⊎ IsUnrefused v.input
   unrefused_seen h = inr (subst (λ (z : Verifying). IsUnrefused z.input) is h)
 
-  pub wanting_seen : wanting ≡ true → IsTrue v.wanting ⊎ IsUnrefused v.input
-  wanting_seen h = inl (subst (λ (z : Verifying). IsTrue z.wanting) is h)
+  pub missing_seen : missing ≡ true → IsTrue v.missing ⊎ IsUnrefused v.input
+  missing_seen h = inl (subst (λ (z : Verifying). IsTrue z.missing) is h)

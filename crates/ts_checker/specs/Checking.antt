@@ -18,11 +18,11 @@ pub record Checking : Type 0 where
   pub reading : Reading
   pub stand : Stand
   pub failed : Option ℕ
-  pub wanting : Bool
+  pub missing : Bool
 
 -- before the first line
 abbrev pub first_checking : ModelParts → Checking
-first_checking m = record { model = m; reading = fresh; stand = first_stand m; failed = None; wanting = false }
+first_checking m = record { model = m; reading = fresh; stand = first_stand m; failed = None; missing = false }
 
 -- line number n of a certificate, which is read as l, is kept or broken, where none was broken before
 abbrev pub TakesFirst : ModelParts → Spans → Stand → ℕ → CertLine → Stand → Option ℕ → Type 0
@@ -46,7 +46,7 @@ pub record Takes (old : Checking) (text : List ℕ) (new : Checking) : Type 0 wh
   pub reading : new.reading ≡ reading_with old.reading text
   pub taken : TakesBy old.model (spans_in old.model) old.stand old.failed old.reading.next (answer_to old.reading text)
       new.stand new.failed
-  pub calm : new.wanting ≡ old.wanting
+  pub calm : new.missing ≡ old.missing
 
 -- the texts are those of lines that may follow one another, and this is known of them
 pub record IsGoing (texts : List (List ℕ)) (c : Checking) : Type 0 where
@@ -74,7 +74,7 @@ IsOver c = (c.reading.stop ≢ None) ⊎ (c.failed ≢ None)
 
 -- the lines so far have these texts, and nothing waits once one was refused or broken
 pub record HasChecked (texts : List (List ℕ)) (c : Checking) : Type 0 where
-  pub calm : c.wanting ≡ false
+  pub calm : c.missing ≡ false
   pub reading : c.reading ≡ reading_after fresh texts
   pub going : c.reading.stop ≡ None → IsGoing texts c
   pub stopped : c.reading.stop ≢ None → IsStopped texts c

@@ -74,7 +74,7 @@ EndsOpened (Judging j) (Verdict v) =
 -- memory wasn't missing so far
 abbrev pub IsCalm : OpenedModel → Type 0
 IsCalm (Refused line kind) = Unit {0}
-IsCalm (Judging j) = j.checker.wanting ≡ false
+IsCalm (Judging j) = j.checker.missing ≡ false
 
 -- so few bytes of the certificate came that as many more may come
 abbrev pub HasFew : OpenedModel → ℕ → Type 0
@@ -134,7 +134,7 @@ TakesBytes old piece new = (bytes : List ℕ) → HasTaken bytes old → HasTake
 pub record Verifying : Type 0 where
   pub input : Input
   pub count : ℕ
-  pub wanting : Bool
+  pub missing : Bool
 
 -- so few bytes were taken that as many more may come
 abbrev pub HasRoomFor : Input → ℕ → Type 0
@@ -142,7 +142,7 @@ HasRoomFor input more = (bytes : List ℕ) × HasTaken bytes input × (length by
 
 -- unless memory was missing, so many bytes were taken
 abbrev pub IsReady : Bool → ℕ → Input → Type 0
-IsReady wanting count input = wanting ≡ false → (bytes : List ℕ) × HasTaken bytes input × (length bytes ≡ count)
+IsReady missing count input = missing ≡ false → (bytes : List ℕ) × HasTaken bytes input × (length bytes ≡ count)
 
 -- neither the model nor a line of the certificate was refused
 abbrev pub IsUnrefused : Input → Type 0
@@ -151,5 +151,5 @@ IsUnrefused (Behind opened) = IsGoing opened
 
 -- these bytes were fed, and memory was never missing
 pub record HasFed (bytes : List ℕ) (v : Verifying) : Type 0 where
-  pub calm : v.wanting ≡ false
+  pub calm : v.missing ≡ false
   pub taken : HasTaken bytes v.input

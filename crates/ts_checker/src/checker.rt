@@ -35,7 +35,7 @@ pub struct Checker {
     reader: LineReader,
     standing: Standing,
     failed: Option<u32>,
-    wanting: bool,
+    missing: bool,
 }
 
 impl std::marker::Model for Checker {
@@ -53,7 +53,7 @@ impl std::marker::Model for Checker {
       reading = c.reader;
       stand = stand_of c.standing;
       failed = c.failed;
-      wanting = c.wanting;
+      missing = c.missing;
     } };
 
     ghost invariant = { λ c.
@@ -81,7 +81,7 @@ impl Checker {
             reader: LineReader::new(),
             standing: Standing::new(alloc, root),
             failed: None,
-            wanting: false,
+            missing: false,
         })
     }
 
@@ -101,16 +101,16 @@ impl Checker {
         ensures next { OnOk result (self.new.reading.next ≤ self.old.reading.next + 1) }
         ensures model { self.new.model ≡ self.old.model }
         ensures failed { OnErr result (self.new.failed ≡ self.old.failed) }
-        ensures wanted { OnErr result (IsTrue self.new.wanting) }
-        ensures calm { OnOk result ((self.old.wanting ≡ false) × (self.new.wanting ≡ false)) }
+        ensures wanted { OnErr result (IsTrue self.new.missing) }
+        ensures calm { OnOk result ((self.old.missing ≡ false) × (self.new.missing ≡ false)) }
     {
-        if self.wanting {
+        if self.missing {
             return Err(Memory);
         }
         match self.step(line) {
             Ok(()) => Ok(()),
             Err(Memory) => {
-                self.wanting = true;
+                self.missing = true;
                 Err(Memory)
             }
         }
@@ -120,7 +120,7 @@ impl Checker {
     /// `open`; from the first line on that is refused or breaks its rule, none. There are never more than the values of
     /// the model's domains together, less its cells, plus 1.
     pub fn waiting(&self) -> u64
-        requires { self.now.wanting ≡ false }
+        requires { self.now.missing ≡ false }
         ensures waiting { result ≡ length self.now.stand.waiting }
         ensures by_lines { (texts : List (List ℕ)) → HasChecked texts self.now → WaitsByLines texts self.now result }
     {
@@ -147,7 +147,7 @@ impl Checker {
 
     /// The verdict on the lines that were fed; no line was answered `Memory`. What is accepted is true of the model.
     pub fn finish(self) -> Verdict
-        requires { self.wanting ≡ false }
+        requires { self.missing ≡ false }
         ensures verdict { (texts : List (List ℕ)) → HasChecked texts self → IsVerdict self.model texts result }
         ensures holds { (texts : List (List ℕ)) → HasChecked texts self → result ≡ Verdict.Accepted →
             IsTrueOf self.model texts }
@@ -194,7 +194,7 @@ impl Checker {
         ensures model { self.new.model ≡ self.old.model }
         ensures failed { OnErr result (self.new.failed ≡ self.old.failed) }
         ensures reading { self.new.reading ≡ self.old.reading }
-        ensures calm { self.new.wanting ≡ self.old.wanting }
+        ensures calm { self.new.missing ≡ self.old.missing }
     {
         if self.failed.is_some() {
             return Ok(());

@@ -44,11 +44,11 @@ impl Judging {
     /// Takes bytes of one line, whose last may be its LF.
     pub(crate) fn feed(&mut self, part: &[u8]) -> Result<(), Memory>
         requires part { IsPart part.now }
-        requires calm { self.old.checker.wanting ≡ false }
+        requires calm { self.old.checker.missing ≡ false }
         requires few { (bytes : List ℕ) × HasRead bytes self.old × (length bytes + length part.now < too_many) }
         ensures read { OnOk result (Reads self.old part.now self.new) }
         ensures model { OnOk result (self.new.checker.model ≡ self.old.checker.model) }
-        ensures calm { OnOk result (self.new.checker.wanting ≡ false) }
+        ensures calm { OnOk result (self.new.checker.missing ≡ false) }
         ensures going { OnErr result (self.old.checker.reading.stop ≡ None) }
         ensures stays { OnOk result (self.new.checker.reading.stop ≡ None → self.old.checker.reading.stop ≡ None) }
     {
@@ -77,7 +77,7 @@ impl Judging {
 
     /// The verdict after the last byte. A last line without an LF is none of a certificate, whatever it says.
     pub(crate) fn finish(self) -> Result<Verdict, Memory>
-        requires calm { self.checker.wanting ≡ false }
+        requires calm { self.checker.missing ≡ false }
         requires few { (bytes : List ℕ) × HasRead bytes self × (length bytes + 0 < too_many) }
         ensures { IfOk result (λ verdict. (bytes : List ℕ) → HasRead bytes self →
             IsShownBy (strict_lines bytes) self.checker.model verdict) }
@@ -97,7 +97,7 @@ impl Judging {
         ensures judged { OnOk result (JudgesLine self.old self.new) }
         ensures cleared { OnOk result (self.new.line.bytes.items ≡ []) }
         ensures model { OnOk result (self.new.checker.model ≡ self.old.checker.model) }
-        ensures calm { OnOk result (self.new.checker.wanting ≡ false) }
+        ensures calm { OnOk result (self.new.checker.missing ≡ false) }
     {
         self.line.end()?;
         self.checker.feed_line(&self.line.bytes)?;

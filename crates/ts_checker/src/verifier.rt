@@ -19,7 +19,7 @@ pub struct Verifier {
     alloc: Global,
     input: Input,
     count: usize,
-    wanting: bool,
+    missing: bool,
 }
 
 impl std::marker::Model for Verifier {
@@ -29,23 +29,23 @@ impl std::marker::Model for Verifier {
 
     ghost Value = { Verifying };
 
-    ghost view = { λ v. record { input = v.input; count = v.count; wanting = v.wanting } };
+    ghost view = { λ v. record { input = v.input; count = v.count; missing = v.missing } };
 
-    ghost invariant = { λ v. IsReady v.wanting v.count v.input × (v.count < too_many) };
+    ghost invariant = { λ v. IsReady v.missing v.count v.input × (v.count < too_many) };
 }
 
 impl Verifier {
     /// Before the first byte.
     pub fn new(alloc: Global) -> Verifier
         ensures fed { HasFed [] result }
-        ensures calm { result.wanting ≡ false }
+        ensures calm { result.missing ≡ false }
         ensures none { result.count ≡ 0 }
     {
         Verifier {
             alloc,
             input: Input::new(alloc),
             count: 0,
-            wanting: false,
+            missing: false,
         }
     }
 
@@ -62,19 +62,19 @@ impl Verifier {
     pub fn feed(&mut self, piece: &[u8]) -> Result<(), Memory>
         requires { self.old.count + length piece.now < too_many }
         ensures fed { OnOk result ((bytes : List ℕ) → HasFed bytes self.old → HasFed (bytes ++ piece.now) self.new) }
-        ensures wanted { OnErr result (IsTrue self.new.wanting) }
-        ensures calm { OnOk result ((self.old.wanting ≡ false) × (self.new.wanting ≡ false)) }
+        ensures wanted { OnErr result (IsTrue self.new.missing) }
+        ensures calm { OnOk result ((self.old.missing ≡ false) × (self.new.missing ≡ false)) }
         ensures counted { self.new.count ≤ self.old.count + length piece.now }
-        ensures unrefused { OnErr result (IsTrue self.old.wanting ⊎ IsUnrefused self.old.input) }
+        ensures unrefused { OnErr result (IsTrue self.old.missing ⊎ IsUnrefused self.old.input) }
     {
-        if self.wanting {
+        if self.missing {
             return Err(Memory);
         }
         self.count += piece.len();
         match self.input.feed(self.alloc, piece) {
             Ok(()) => Ok(()),
             Err(Memory) => {
-                self.wanting = true;
+                self.missing = true;
                 Err(Memory)
             }
         }
@@ -83,7 +83,7 @@ impl Verifier {
     /// Where the model is valid: the first line of the certificate, among those ended by LF so far, that is against the
     /// grammar or has other counts, or else the first that breaks its rule. No piece was answered `Memory`.
     pub fn failed(&self) -> Option<u32>
-        requires { self.now.wanting ≡ false }
+        requires { self.now.missing ≡ false }
         ensures { (bytes : List ℕ) → HasFed bytes self.now → IsFailed bytes result }
     {
         self.input.failed()
@@ -92,15 +92,15 @@ impl Verifier {
     /// The refusal of the model, or the verdict on the certificate after it. What is accepted is true of the model.
     pub fn finish(self) -> Result<VerifyEnd, Memory>
         ensures end { IfOk result (λ end. (bytes : List ℕ) → HasFed bytes self → IsVerifyEnd bytes end) }
-        ensures calm { IfOk result (λ end. self.wanting ≡ false) }
+        ensures calm { IfOk result (λ end. self.missing ≡ false) }
     {
         let Verifier {
             alloc,
             input,
-            wanting,
+            missing,
             ..
         } = self;
-        if wanting {
+        if missing {
             return Err(Memory);
         }
         input.finish(alloc)

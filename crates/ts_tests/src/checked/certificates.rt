@@ -67,7 +67,7 @@ fn all_steps() -> &'static [Steps] {
 
 /// The checker of certificates for the model of a text; a text that is refused gives none either.
 fn checker_of(alloc: Global, model: &str) -> Result<Checker, Memory>
-    ensures { IfOk result (λ c. c.wanting ≡ false) }
+    ensures { IfOk result (λ c. c.missing ≡ false) }
 {
     let text = model.as_bytes();
     if text.len() >= 1000 {
@@ -84,15 +84,15 @@ fn checker_of(alloc: Global, model: &str) -> Result<Checker, Memory>
 
 /// Whether a checker tells so many boxes and this line.
 fn tells(checker: &Checker, waiting: u64, broken: Option<u32>) -> bool
-    requires { checker.now.wanting ≡ false }
+    requires { checker.now.missing ≡ false }
 {
     checker.waiting() == waiting && checker.broken_line() == broken
 }
 
 /// Feeds the lines of rows, up to the first one before whose line the checker tells something else.
 fn first_other(checker: &mut Checker, rows: &[Step]) -> Result<Option<usize>, Memory>
-    requires { checker.old.wanting ≡ false }
-    ensures { OnOk result (checker.new.wanting ≡ false) }
+    requires { checker.old.missing ≡ false }
+    ensures { OnOk result (checker.new.missing ≡ false) }
 {
     for k in 0..rows.len() {
         let (line, waiting, broken) = rows[k];

@@ -188,11 +188,11 @@ const MOST: usize = 1_000_000;
 
 /// Feeds a text to a new verifier, in pieces of so many bytes.
 fn feed_all(verifier: &mut Verifier, text: &[u8], size: usize) -> Result<(), Memory>
-    requires calm { verifier.old.wanting ≡ false }
+    requires calm { verifier.old.missing ≡ false }
     requires none { verifier.old.count ≡ 0 }
     requires some { 0 < size }
     requires few { length text.now < 2000000 }
-    ensures { OnOk result (verifier.new.wanting ≡ false) }
+    ensures { OnOk result (verifier.new.missing ≡ false) }
 {
     let mut rest = text;
     while !rest.is_empty() {
@@ -207,7 +207,7 @@ fn feed_all(verifier: &mut Verifier, text: &[u8], size: usize) -> Result<(), Mem
 fn fed(alloc: Global, text: &[u8], size: usize) -> Result<Verifier, Memory>
     requires some { 0 < size }
     requires few { length text.now < 2000000 }
-    ensures { IfOk result (λ v. v.wanting ≡ false) }
+    ensures { IfOk result (λ v. v.missing ≡ false) }
 {
     let mut verifier = Verifier::new(alloc);
     feed_all(&mut verifier, text, size)?;
@@ -269,7 +269,7 @@ fn pieces(rt: HostRuntime) {
 
 /// The first row after whose piece another line has failed, by a new verifier.
 fn first_other(verifier: &mut Verifier) -> Result<Option<usize>, Memory>
-    requires calm { verifier.old.wanting ≡ false }
+    requires calm { verifier.old.missing ≡ false }
     requires none { verifier.old.count ≡ 0 }
 {
     let rows = feeds();

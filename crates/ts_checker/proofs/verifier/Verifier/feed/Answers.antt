@@ -1,11 +1,11 @@
 use Rattle.std.proofs.Common.{subst, sym, ap, ◌++◌, arith, length-append}
 use Rattle.ts_checker.specs.Feeding.{HasFed, Verifying}
-use Rattle.ts_checker.proofs.InputLaws.{room_seen, unrefused_seen, wanting_seen}
+use Rattle.ts_checker.proofs.InputLaws.{room_seen, unrefused_seen, missing_seen}
 use Rattle.ts_checker.proofs.verifier.Verifier.feed.Goals as goal
 
 pub feed-requires : goal.feed-requires
 feed-requires c =
-    room_seen c.self.inside.input c.self.inside.count c.self.inside.wanting c.args.self.now c.self.view_is _ (c.self.invariant.0 c.if-self.false) c.requires
+    room_seen c.self.inside.input c.self.inside.count c.self.inside.missing c.args.self.now c.self.view_is _ (c.self.invariant.0 c.if-self.false) c.requires
 
 pub invariant_of-self : goal.invariant_of-self
 invariant_of-self c =
@@ -24,8 +24,8 @@ returns-in-Ok-clause-fed c = λ bytes fed.
 
 pub returns-then-self-clause-unrefused : goal.returns-then-self-clause-unrefused
 returns-then-self-clause-unrefused c =
-    wanting_seen c.self.inside.input c.self.inside.count c.self.inside.wanting c.args.self.now c.self.view_is c.if-self.true
+    missing_seen c.self.inside.input c.self.inside.count c.self.inside.missing c.args.self.now c.self.view_is c.if-self.true
 
 pub returns-in-Err-clause-unrefused : goal.returns-in-Err-clause-unrefused
 returns-in-Err-clause-unrefused c =
-    unrefused_seen c.self.inside.input c.self.inside.count c.self.inside.wanting c.args.self.now c.self.view_is c.in-Err.ensures.unrefused
+    unrefused_seen c.self.inside.input c.self.inside.count c.self.inside.missing c.args.self.now c.self.view_is c.in-Err.ensures.unrefused
