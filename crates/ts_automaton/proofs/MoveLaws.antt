@@ -234,7 +234,7 @@ move_only wide states k ws t h =
         ws ≡ codes "move" ∷ (name_at states (k / 3) ∷ []) ∷ sign_word (k % 3) ∷ (name_at states t.next ∷ []) ∷ more
     all_words u v w x rest more e f g h i j = cc
 
--- and back
+-- the words of a move joined and cut again are the words of its expressions
 pieces_again : (wide : Bool) (to : EachOf Formula) → pieces_of wide (pieces_joined wide (pieces wide to)) ≡ Some (pieces wide to)
 pieces_again false to =
     ap (from_c false) (cut_again (formula_words to.c) (formula_words to.d ++ (semi ∷ formula_words to.r)) (formula_no_semi to.c))

@@ -84,7 +84,7 @@ constant_word NegInf = codes "-inf"
 constant_word (Int n) = if int_eq n (pos 0) then codes "0" else codes "1"
 constant_word PosInf = codes "+inf"
 
--- those for E or F, which stand where it is of the width
+-- the words for E or F, which stand in a wide text alone
 abbrev pub part_words : {A : Type 0} → (A → List (List ℕ)) → Bool → A → List (List ℕ)
 part_words words false a = []
 part_words words true a = words a
@@ -129,7 +129,7 @@ abbrev pub lines_to_finish : Bool → List StateLine → EachOf Ext → List Mov
 lines_to_finish wide states start moves finish mark =
     lines_to_moves wide states start moves ++ (finish_words finish mark ∷ [])
 
--- and all
+-- all lines of a text, with the last one
 abbrev pub body_lines : Bool → List StateLine → EachOf Ext → List Move → Formula → Mark → List (List (List ℕ))
 body_lines wide states start moves finish mark =
     lines_to_finish wide states start moves finish mark ++ ((codes "end" ∷ []) ∷ [])

@@ -32,7 +32,7 @@ map_each to a = each (to a.c) (to a.e) (to a.d) (to a.f) (to a.r)
 abbrev pub Each : {A B : Type 0} → (A → B → Type 0) → EachOf A → EachOf B → Type 0
 Each P a b = P a.c b.c × P a.e b.e × P a.d b.d × P a.f b.f × P a.r b.r
 
--- those of the width, in the order of texts
+-- what the registers of the width have, in the order of texts
 abbrev pub in_order : {A : Type 0} → Bool → EachOf A → List A
 in_order false a = a.c ∷ a.d ∷ a.r ∷ []
 in_order true a = a.c ∷ a.e ∷ a.d ∷ a.f ∷ a.r ∷ []
@@ -82,7 +82,7 @@ abbrev pub Takes : {A : Type 0} → (Operator → A → A → Type 0) → Values
 Takes P m s x y (Leaf a) = Unit {0}
 Takes P m s x y (Join o f g) = Takes P m s x y f × Takes P m s x y g × P o (value_in m s x y f) (value_in m s x y g)
 
--- so in each of the expressions of a move
+-- each operator in each of the expressions of a move meets two values that it takes
 abbrev pub TakesAll : {A : Type 0} →
     (Operator → A → A → Type 0) → Values A → EachOf A → ℤ → ℤ → EachOf Formula → Type 0
 TakesAll P m s x y to =

@@ -73,7 +73,7 @@ is_short f = nat_le (words_in f) 15
 abbrev pub is_expression : Bool → Formula → Bool
 is_expression wide f = is_short f && is_of wide f
 
--- those of a move: E and F of a narrow one are 0
+-- the expressions that a move may have: E and F of a narrow one are 0
 abbrev pub are_expressions : Bool → EachOf Formula → Bool
 are_expressions wide a = each_is (is_expression wide) a && rests is_zero wide a
 

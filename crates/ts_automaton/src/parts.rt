@@ -192,7 +192,7 @@ fn all_have_expressions(states: &[State], wide: bool) -> bool
     states.iter().all(|s| has_expressions_in(s, wide))
 }
 
-/// So for the moves of a state.
+/// Whether an automaton of this width may have the expressions of a state's moves.
 fn has_expressions_in(state: &State, wide: bool) -> bool
     ensures { result ≡ has_expressions_in wide (node_of state.now) }
 {
@@ -201,7 +201,7 @@ fn has_expressions_in(state: &State, wide: bool) -> bool
         && are_expressions(&state.greater, wide)
 }
 
-/// So for a move.
+/// Whether an automaton of this width may have the expressions of a move.
 fn are_expressions(turn: &Turn, wide: bool) -> bool
     ensures { result ≡ are_expressions wide (move_of turn.now).to }
 {

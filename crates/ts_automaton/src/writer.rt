@@ -101,7 +101,7 @@ fn push_constant(text: &mut Vec<u8>, e: Ext) -> Result<(), Memory>
     Ok(())
 }
 
-/// So for E or F, which stand in the text of a wide automaton alone.
+/// Appends the constant of E or F, which stands in the text of a wide automaton alone.
 fn push_extra_constant(text: &mut Vec<u8>, e: Ext, wide: bool) -> Result<(), Memory>
     ensures { OnOk result (text.new.items ≡ text.old.items ++ behind (part_words constant_words wide e)) }
 {
@@ -164,7 +164,7 @@ fn push_behind_semi(text: &mut Vec<u8>, e: &Expr) -> Result<(), Memory>
     Ok(())
 }
 
-/// So for E or F, which stand in the text of a wide automaton alone.
+/// Appends the expression of E or F, which stands in the text of a wide automaton alone.
 fn push_extra(text: &mut Vec<u8>, e: &Expr, wide: bool) -> Result<(), Memory>
     ensures { OnOk result (text.new.items
         ≡ text.old.items ++ behind (part_words behind_semi wide (formula e.now))) }

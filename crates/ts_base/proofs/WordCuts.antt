@@ -108,7 +108,7 @@ found line n true e h =
     let same : n ≡ position_or_len is_space line = cc in
     at_space line (grind arith) ∙ ap (cut_at line) (sym same)
 
--- the same, as the code has it
+-- how the code cuts a line: at the place of its first space
 pub space_cut : (line : List ℕ) (n : ℕ) → Some n ≡ position is_space line →
     words_of line ≡ record { first = take n line; more = all_words (words_of (take (length line - (n + 1)) (drop (n + 1) line))) }
 space_cut line n h =

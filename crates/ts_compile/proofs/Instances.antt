@@ -49,7 +49,7 @@ FoldedOf Add u d = Unit {0}
 FoldedOf Max u d = ext_max u d ≡ u
 FoldedOf Min u d = ext_min u d ≡ u
 
--- the same of what is taken away, which stays at 0 where nothing is
+-- what is taken away, joined with one more; it stays at 0 where nothing is taken away
 abbrev pub joined_by : Option CellFold → Ext → Ext → Ext → Ext
 joined_by None u v d = u
 joined_by (Some row) u v d = exact_joined row.op u v d

@@ -85,7 +85,7 @@ abbrev pub hands_over : Phase → Bool
 hands_over FoundE = true
 hands_over f = false
 
--- those below are for occurrences that keep their last cell
+-- what the phases do where occurrences keep their last cell
 
 abbrev pub begins : Kind → Phase → Bool
 begins Idle Found = true

@@ -41,7 +41,8 @@ pub fn terms_are_local()
     ensures { ForPartners (λ id partner g f. LocalUpTo longest (pair_by id partner g f)) }
 {}
 
-/// So where the pattern has a partner, the glued value at every cell of these series is the value of the term.
+/// Where the pattern has a partner, the glued value at every cell of a series of up to 100,000 cells is the value of the
+/// term.
 pub fn glued_value()
     ensures { (t : Term) (partner : PatternId) → (seed_table t.pattern).partner ≡ Some partner →
         GluesTerm (pair_with t partner) t }

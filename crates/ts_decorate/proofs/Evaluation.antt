@@ -146,7 +146,7 @@ module _ (a : ℕ) (x y : Ext) where
   cells_rest FoundE d i = refl
   cells_rest Inside d i = refl
 
--- so after each sign, and at the start
+-- what is taken away rests at 0 after each sign, and at the start, where nothing is taken away
 rests_after : (row : Option CellFold) (o : Operators Ext) → o.less ≡ half_by constant_value number_op row ZeroConstant →
     (a : ℕ) (p : Phase) (s : EachOf Ext) (x y : Ext) → AtRest row s → AtRest row (after_phase o a p s x y)
 rests_after (Some row) o same a p s x y h = tt

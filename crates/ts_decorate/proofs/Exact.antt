@@ -68,7 +68,7 @@ IsGood MaxFeature u = Unit {0}
 IsGood MinFeature u = Unit {0}
 IsGood Range u = Unit {0}
 
--- those that are taken away may be any
+-- what is taken away may be any number
 abbrev pub IsAny : Ext → Type 0
 IsAny u = Unit {0}
 

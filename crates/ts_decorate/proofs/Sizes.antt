@@ -118,7 +118,7 @@ pub operator_size : (o : Operator) (u v : Ext) → size_of (exact_operator o u v
 operator_size (Fold o) u v = op_size o u v
 operator_size Sub u v = difference_size u v
 
--- so by rows, whatever they are
+-- the operators of a row, if any, give the exact results where numbers are small
 phi_same : (row : Option CellFold) (u v : Ext) → size_of u + size_of v ≤ limit → phi_by number_op row u v ≡ phi_by exact_operator row u v
 phi_same None u v h = refl
 phi_same (Some row) u v h = op_same row.op u v h

@@ -31,7 +31,7 @@ abbrev pub worth_atom : Worth → Atom → Atom
 worth_atom UnitWorth cell = UnitAtom
 worth_atom CellWorth cell = cell
 
--- so the cell read, and the next one
+-- what the cell read is worth, and what the next one is
 abbrev pub here : Feature → Formula
 here f = Leaf (worth_atom (cell_fold f).worth This)
 

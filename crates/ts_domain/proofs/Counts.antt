@@ -320,7 +320,7 @@ unfolding counts_from
 counted_all rs i count made past inv =
     sym (append-nil made) ∙ sym (ap (λ l. made ++ counts_from count l) (drop_all i rs past)) ∙ inv
 
--- the same, of the ranges and counts that were read
+-- a place among the ranges and counts that the code read is one among those of the set
 pub found_given : (rs items : List Interval) (cs bs : List ℕ) (v : ℤ) (k : ℕ) (e : Interval) → items ≡ rs → bs ≡ cs → cs ≡ counts_from 0 rs →
     RangesFrom (neg_ℤ (pos 1000000)) rs → Contains (values_of rs) v → k ≡ leading_count (λ r. int_lt r.high v) items → HasNumber items bs v e k
 found_given rs items cs bs v k e same counts counted apart has at =

@@ -129,7 +129,7 @@ part_is rs items p q ms d test left view is same part e some =
       ap (λ l. numbers (values_in (values_of items) q) l) e ∙ ap (λ r. numbers (values_in (values_of r) q) (passing test ms)) same ∙ values,
     )
 
--- the same, of what was read in machine numbers
+-- what a test leaves of a piece, from the ranges and marks that the code read in machine numbers
 pub part_given : (rs slice items : List Interval) (p q : Interval) (ms copy : List Mark) (d : List ℤ) (test : ℤ → ℤ → Bool) (t w : ℤ) (left : List Mark) →
     numbers (values_in (values_of rs) p) ms ≡ d → IsMarked rs p ms → slice ≡ rs → items ≡ rs → w ≡ t → IsPartOf (values_of slice) (test w) p q →
     copy ≡ ms → left ≡ passing (test w) copy → (filter (test t) d ≡ [] → ⊥) →

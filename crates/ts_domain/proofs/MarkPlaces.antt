@@ -224,7 +224,7 @@ fewer test [] = omega arith
 fewer test (x ∷ xs) = elim (test x) as (λ b. length (cond b (x ∷ filter test xs) (filter test xs)) ≤ length (x ∷ xs))
     [ true ↦ omega (arith, fewer test xs) | false ↦ omega (arith, fewer test xs) ]
 
--- those between two numbers, by those up to each
+-- how many of a list lie between two numbers, by how many lie up to each
 pub between_counts : (t u : ℤ) (all : List ℤ) → t <ℤ u →
     length (values_up_to t all) + length (filter (λ v. int_lt v u) (values_above t all)) ≡ length (values_up_to (u -ℤ pos 1) all)
 between_counts t u all lt =
@@ -280,7 +280,7 @@ counted_before all t xs m ys n more a few h en em =
     let less = fewer (λ v. int_lt v m.value) (values_above t all) in let less' = fewer (λ v. int_lt t v) all in
     (omega (arith, en, few, less, less'), omega (arith, ints, size, en, em), omega (arith, ints, em, small.to), λ r e. omega (arith, ints, e, size, en, em))
 
--- the same in machine numbers
+-- counts in machine numbers
 abbrev word : ℤ → ℤ
 word z = to_z w64 (of_z w64 z)
 

@@ -117,7 +117,7 @@ module _ (rs : List Interval) (p : Interval) (ms : List Mark) (d : List ℤ) (vi
   pub above_is : (t : ℤ) → t <ℤ bottom → numbers (values_above t (values_in (values_of rs) p)) ms ≡ d
   above_is t low = ap (λ l. numbers l ms) (all_above t rs p is.set.apart low) ∙ view
 
-  -- the same, of what was read in machine numbers
+  -- whether a value is in the set, from the ranges that the code read in machine numbers
   pub has_given : (items : List Interval) (v w : ℤ) (answer : Bool) → items ≡ rs → w ≡ v → None ≡ mark_at w ms →
       IsTrue answer ↔ Contains (values_in (values_of items) p) w → IsTrue answer ↔ Contains d v
   has_given items v w answer same e at is = subst (λ u. IsTrue answer ↔ Contains d u) e

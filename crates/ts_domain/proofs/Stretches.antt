@@ -33,7 +33,7 @@ use Rattle.ts_domain.proofs.MarkedSets.{base_rises, marked_domain, marked_has, p
 abbrev bottom : ℤ
 bottom = neg_ℤ (pos 1000000)
 
--- the number above one at a place of a rising list stands at the next place
+-- in a rising list, the next number above the one at a place stands at the place after it
 pub next_at : (xs : List ℤ) (i : ℕ) (v : ℤ) → IsRising xs → slice_get xs i ≡ Some v → Contains xs (v +ℤ pos 1) → slice_get xs (suc i) ≡ Some (v +ℤ pos 1)
 unfolding IsRising
 next_at [] i v rise at has = cc
@@ -229,7 +229,7 @@ range_reach t rs d n a is below fits test =
 under_min : (r a b : ℤ) → r ≡ int_min a b → (r ≤ℤ a) × (r ≤ℤ b)
 under_min r a b e = (grind (arith, ints), grind (arith, ints))
 
--- the same within a piece
+-- how far the values after v go on without a gap, within a piece
 pub piece_reach : (rs : List Interval) (p : Interval) (v last r : ℤ) → RangesFrom bottom rs → IsPiece (values_of rs) p → SFits w64 v → SFits w64 last →
     SFits w64 r → int_lt (m v) (m p.low) ≡ false → r ≡ int_min (m last) (m p.high) →
     ((w : ℤ) → m v <ℤ w → w ≤ℤ last → Contains (values_of rs) w) → (w : ℤ) → v <ℤ w → w ≤ℤ m r → Contains (values_in (values_of rs) p) w
@@ -400,7 +400,7 @@ plain_greatest rs p ms d view is a r below reach free = (there, greatest)
         by_lt_z p.high v (λ lt. ((contains_in (values_of rs) p v).0
         ((unmarked rs p ms d view is v (none v (omega (arith, ints, lt)) within.1)).0 has)).2) (λ le. le)
 
--- the same, of what was read in machine numbers
+-- the least value of a set, from what the code read in machine numbers
 pub least_given : (rs : List Interval) (p : Interval) (ms : List Mark) (d : List ℤ) → numbers (values_in (values_of rs) p) ms ≡ d → IsMarked rs p ms →
     (r : ℤ) → SFits w64 r → m r ≡ m p.low → ((w : ℤ) → neg_ℤ (pos 1000001) <ℤ w → w ≤ℤ r → mark_at w ms ≡ None) → IsLeast d (m p.low)
 least_given rs p ms d view is r fits e free =

@@ -86,7 +86,7 @@ impl Domain {
         whole(alloc, union)
     }
 
-    /// The same set once more, on the same ranges: it costs a count, and its marks.
+    /// A copy of the set, on the ranges that it shares: it costs a count, and a copy of its marks.
     pub fn try_clone(&self) -> Result<Domain, Memory>
         ensures same { IfOk result (λ d. d ≡ self.now) }
         ensures domain { IfOk result IsDomain }

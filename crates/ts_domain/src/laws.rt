@@ -10,7 +10,7 @@ pub fn series_are_those_inside()
     ensures { (cells : List (List ℤ)) (vs : List ℤ) → Contains (all_series cells) vs ↔ InBox vs cells }
 {}
 
-/// They stand in lexicographic order, so each of them once.
+/// The series of a box stand in lexicographic order, so each of them once.
 pub fn series_rise()
     ensures { (cells : List (List ℤ)) → IsBox cells → AreRising (all_series cells) }
 {}

@@ -209,7 +209,7 @@ impl Marks {
         self.split(t).behind
     }
 
-    /// The same marks in a tree of the same form.
+    /// A copy of the marks, in a tree of the form that this one has.
     pub(crate) fn try_clone(&self, alloc: Global) -> Result<Marks, Memory>
         ensures { IfOk result (λ marks. marks ≡ self.now) }
     {
@@ -244,7 +244,7 @@ impl Cut {
     }
 }
 
-/// These marks, with the one in the node between them.
+/// Two lists of marks, with the mark of the node between them.
 fn joined_at(mut node: Box<Node>, before: Marks, behind: Marks) -> Marks
     requires { MarksFrom (neg_ℤ greatest_value) (before ++ node.value.mark ∷ behind) }
     ensures { result ≡ before ++ node.value.mark ∷ behind }

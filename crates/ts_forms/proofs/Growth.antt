@@ -77,7 +77,7 @@ put_both op f g h k r s x y m p q n =
 pub put_one : (op : Shape → Shape) (f g h : Forms) (r : Shape) (x m : ℕ) → IsPut f g r x → IsPut g h (op (form_at (shapes g) x)) m → IsPut f h (op r) m
 put_one op f g h r x m p n = put_as f h (op (form_at (shapes g) x)) (op r) m (ap op p.number.1) (put_on f g h r (op (form_at (shapes g) x)) x m p n)
 
--- the same of many
+-- lists of expressions stay where they were put
 
 pub all_there_on : (a b : List Shape) (is : List ℕ) → Grows a b → AreThere a is → AreThere b is
 all_there_on a b [] p h = h

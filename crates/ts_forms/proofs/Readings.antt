@@ -85,7 +85,7 @@ words_alt_are ss r s k m h g =
 pub words_star_are : (ss : List Shape) (r : Shape) (k : Known) → IsKnown ss r k → words_star k ≡ words_of (Star r)
 words_star_are ss r k h = ap (λ z. words_alone true true z) h.longer
 
--- the same expressions, with other notes
+-- notes at a node leave the expressions as they are
 
 get_set : {A : Type 0} (xs : List A) (x y : A) (i k : ℕ) → slice_get (slice_set xs i x) k ≡ Some y → ((k ≡ i) × (x ≡ y)) ⊎ (slice_get xs k ≡ Some y)
 get_set [] x y i k q = inr q

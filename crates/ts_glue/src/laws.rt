@@ -41,7 +41,7 @@ pub fn glued_spans_grow()
     ensures { GluedSpansGrow }
 {}
 
-/// They do under the mark that changes nothing.
+/// Hulls that hold more give a glued span that holds more under the mark that changes nothing, too.
 pub fn unmarked_spans_grow()
     ensures { UnmarkedSpansGrow }
 {}

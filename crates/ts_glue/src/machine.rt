@@ -82,7 +82,7 @@ impl Machine {
         }
     }
 
-    /// The same machine over the cells from `first` to `last` alone, counted from 1. It has no window yet.
+    /// This machine, over the cells from `first` to `last` alone, counted from 1. It has no window yet.
     pub fn over(self, first: u32, last: u32) -> Machine
         requires first { 1 ≤ first }
         requires order { first ≤ last }

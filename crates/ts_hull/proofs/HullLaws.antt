@@ -31,7 +31,7 @@ pub same_hull : {c e d f r c' e' d' f' r' : Span} → c ≡ c' → e ≡ e' → 
     hull_of (each c e d f r) ≡ hull_of (each c' e' d' f' r')
 same_hull p q s t u = cc
 
--- the same of hulls
+-- a hull that joined with none stays as it is
 abbrev pub TakesNone : Hull → Type 0
 TakesNone h = hull_of_both h none ≡ h
 

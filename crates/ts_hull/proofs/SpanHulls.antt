@@ -94,7 +94,7 @@ hull_assoc s t u = go (has_some s) (has_some t) (has_some u) refl refl refl
     go false false false h k l = ap (λ z. least_span z u) (hull_neither s t h k) ∙ hull_neither none_span u refl l
         ∙ sym (ap (least_span s) (hull_neither t u k l) ∙ hull_neither s none_span h refl)
 
--- the same of hulls
+-- hulls of hulls, register by register
 
 pub both_is : (h k : Hull) →
     hull_of_both h k ≡ hull_with (least_span h.c k.c) (least_span h.e k.e) (least_span h.d k.d) (least_span h.f k.f) (least_span h.r k.r)

@@ -14,7 +14,7 @@ use Rattle.ts_model.specs.ModelReading.{needs_lists, texts_of, line_gives, onwar
 use Rattle.ts_model.specs.ModelParts.{ModelParts, nothing}
 use Rattle.ts_model.proofs.LongWords.{heads_give}
 
--- rows, and the first line after them that isn't text; and the same of more lines, whose reading goes on after these
+-- rows, and the first line after them that isn't text; and so of more lines, whose reading goes on after these
 module _ (lists : Bool) (rows longer : List Row) (bad worse : Option ℕ) (next : ModelParts → Result ModelParts (ℕ × ModelKind))
     (later : (m : ModelParts) → then_on (read_rows lists m longer) (unless_bad worse) ≡ then_on (then_on (read_rows lists m rows) (unless_bad bad)) next)
     (number : ℕ) where

@@ -145,7 +145,7 @@ finished_halves line more f =
     ap halves (finished_first line more f)
     ∙ ap (λ (x : List ℕ). cond (is_separator line) (made [] (Some x)) (after_front line (halves_of more))) (lines_are more)
 
--- the same of a last line without an LF: it is of the model, or the '%%' after which nothing stands
+-- a last line without an LF is of the model, or the '%%' after which nothing stands
 
 last_halves : (line : List ℕ) → 0 < length line → halves (last_line line) ≡ cond (is_separator line) (made [] (Some [])) (made line None)
 last_halves [] some = absurd (omega (arith, some))

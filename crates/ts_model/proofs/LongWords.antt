@@ -322,6 +322,6 @@ heads_are : (ws : List Piece) → heads ws ≡ cut_all (texts_of ws)
 heads_are [] = refl
 heads_are (w ∷ ws) = ap (λ (x : List (List ℕ)). cut w.text ∷ x) (heads_are ws)
 
--- a line gives the same by the first bytes of its words
+-- what a line states is seen by the first bytes of its words
 pub heads_give : (lists : Bool) (m : ModelParts) (ws : List Piece) → line_gives lists m (texts_of ws) ≡ line_gives lists m (heads ws)
 heads_give lists m ws = ap (taken_as lists m) (sym (parsed_cut (texts_of ws)) ∙ ap meaning_in (sym (heads_are ws)))

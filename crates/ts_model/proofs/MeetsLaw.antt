@@ -70,7 +70,7 @@ judged_is_met m xs cells = (there, back)
         and_from (all_true (insides m.cells xs)) (all_true (holdings (values_on m xs) m.requirements))
         (box_insides m.cells xs w.inside) (all_held m xs m.requirements w.requirements)
 
--- the same of what was judged
+-- the judgement that the code makes tells whether the series meets
 pub met_by : (m : ModelParts) (xs : List ℤ) (inside holding : List Bool) → length xs ≡ length m.cells → inside ≡ insides m.cells xs →
     holding ≡ holdings (values_on m xs) m.requirements →
     IsTrue (all_hold inside holding) ↔ Meets m xs

@@ -221,7 +221,7 @@ module _ (bytes : List ℕ) (t : ModelText) (h : IsInModel bytes t) where
       subst (λ (x : List ℕ). HasLines t.need x new.reader) (sym (by_mark false other some))
       (reads h.text h.line h.ended (unfinished_line h.line h.is some) h.short h.read)
 
--- the same by the tests of the code
+-- the last line, by the tests of the code
 
 pub no_last : (t : ModelText) → ((line : List ℕ) → IsShort line t.line → line ≡ []) → ReadsLast t t
 no_last t none bytes h = last_none bytes t h (none h.line h.short)

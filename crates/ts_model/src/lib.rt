@@ -3,7 +3,7 @@
 //! A model text has one statement a line: how many cells a series has, which values they may take, the terms of the
 //! series (Global Constraint Catalog, Volume II), what is required of their values, and which term is the objective.
 //! `read_model` gives the model that the lines state together, or the first bad line with the first of fifteen kinds
-//! that holds of it, and a `ModelReader` the same of a text that comes line by line; `read_series` gives the numbers of
+//! that holds of it, and a `ModelReader` reads a text that comes line by line; `read_series` gives the numbers of
 //! a `series` line, `read_any_series` where no model says how many. Each is an exact reading: every text has one
 //! answer, lack of memory aside. What stands above knows of a model that its numbers of cells and terms exist, those of
 //! its windows too, and that it keeps the limits of its need. A term has the value of the cells that it looks at: all,

@@ -27,7 +27,7 @@ over_more op xs k d x t o q e b h =
     ∙ sym (over_last op (get_or xs k d) (take k xs))
     ∙ ap (λ z. over op z) (sym (take_more xs k d q))
 
--- the same over what a list is mapped to
+-- the total over what a list is mapped to, with one element more
 pub over_map_more : {A : Type 0} (op : ℤ → ℤ → ℤ) (f : A → ℤ) (xs : List A) (k : ℕ) (d : A) (x t : ℤ) (o : Option ℤ) → k < length xs → x ≡ f (get_or xs k d) →
     o ≡ over op (map f (take k xs)) → t ≡ with_one op o x → Some t ≡ over op (map f (take (k + 1) xs))
 over_map_more op f xs k d x t o q e b h =

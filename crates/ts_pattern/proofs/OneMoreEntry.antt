@@ -94,6 +94,6 @@ survivors_push {X} {R} {T} t f l es e =
         turned true ys zs = refl
         turned false ys zs = refl
 
--- so it is of expressions
+-- equality of expressions follows from equality with a third one
 pub shapes_follow : SameFollows shapes
 shapes_follow x k d p q = (same_law x d).1 ((same_law x k).0 p ∙ (same_law k d).0 q)

@@ -36,7 +36,7 @@ is_of_is plan p whole n a b c normal size first blank known =
     ∙ ap (λ z. first_passes (λ r. same_shape r (normal_form p)) residuals && (first_passes (λ x. is_blank x) configurations && z))
     (known ∙ known_is n plan.configurations.items ∙ ap all (size ∙ sym (length-map plan.residuals.items (λ r. shape_of r))))
 
--- the same where the tests read slices of the plan's lists
+-- a plan is of a pattern if the tests that read slices of the plan's lists pass
 pub is_of_read : (plan : Plan) (p whole : Shape) (n : ℕ) (a b c r : Bool) (rs : List Regex) (cs ds : List Configuration) →
     rs ≡ plan.residuals.items → cs ≡ plan.configurations.items → ds ≡ plan.configurations.items → whole ≡ normal_form p → n ≡ length plan.residuals.items →
     a ≡ first_passes (λ r. same_shape r whole) (map (λ r. shape_of r) rs) → b ≡ first_passes (λ x. is_blank x) (map (λ x. plain_configuration x) cs) →

@@ -16,7 +16,7 @@ pub struct Pattern {
 }
 
 impl Pattern {
-    /// The same pattern once more; `Memory` where none is left.
+    /// A copy of the pattern; `Memory` where none is left.
     pub fn try_clone(&self, alloc: Global) -> Result<Pattern, Memory>
         ensures regex { IfOk result (λ p. shape_of p.regex ≡ shape_of self.now.regex) }
         ensures b { IfOk result (λ p. p.b ≡ self.now.b) }

@@ -91,7 +91,7 @@ same_adds (c ∷ cs) b some none other same = λ more.
     same_gists c c cs (cs ++ b ∷ []) more none (no_lf_more (c ∷ cs) b none other) same
     ∙ ap gists (append_assoc (c ∷ cs) (b ∷ []) more)
 
--- the same of a line of text and a byte of text, where it only has to be shown for a line that goes on
+-- a byte of text adds nothing to a line of text, if it adds nothing wherever the line goes on
 text_same : (k : List ℕ) (b : ℕ) → is_text k ≡ true → is_plain b ≡ true → ((more : List ℕ) → gist (k ++ more) ≡ gist (k ++ b ∷ more)) →
     AreSame k (k ++ b ∷ [])
 text_same k b text plain on = record {

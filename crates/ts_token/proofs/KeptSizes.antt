@@ -65,7 +65,7 @@ rises_in [] blank b is solid =
 rises_in (x ∷ []) blank b is solid = behind x 1 (blank ∷ []) (blank ∷ b ∷ []) refl (rises_in [] blank b is solid)
 rises_in (x ∷ y ∷ ys) blank b is solid = behind x 1 (y ∷ ys ++ blank ∷ []) (y ∷ ys ++ blank ∷ b ∷ []) refl (rises_in (y ∷ ys) blank b is solid)
 
--- the same of the words themselves
+-- a line has no fewer words with one more byte
 grows : (line : List ℕ) (b : ℕ) → length (words_of line) ≤ length (words_of (line ++ b ∷ []))
 grows line b =
     let few = words_size 1 line in

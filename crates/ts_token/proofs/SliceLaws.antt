@@ -157,7 +157,7 @@ rows text whole number (line ∷ lines) some text_is h =
 pub are_slices : (text : List ℕ) → AreSlices text (cut_of text).rows
 are_slices text = rows text text 1 (lines_of text) (omega arith) refl (stand text)
 
--- the same of a cut after which no line is left
+-- so it is of the rows of a cut after which no line is left
 pub finished_slices : (text rest : List ℕ) (c : Cut) → length rest ≡ 0 → completed c (lines_of rest) ≡ cut_of text → AreSlices text c.rows
 finished_slices text [] c none all = subst (λ (x : Cut). AreSlices text x.rows) (sym all ∙ finish c) (are_slices text)
 finished_slices text (b ∷ bs) c none all = absurd (omega arith)

@@ -63,7 +63,7 @@ taken [] some h = absurd (omega arith)
 taken (b ∷ bs) some h =
     let P : Bool → Type 0 = λ v. 0 < cond (not v) (1 + position_or_len is_blank bs) 0 in subst P (sym (not-true (is_blank b) h)) (omega arith)
 
--- the same, with the word found by its length
+-- the words of a line that begins with one: that word, found by its length, and those after it
 front_found : (column : ℕ) (line : List ℕ) → 0 < length line → is_solid (get_or line 0 0) ≡ true →
     words_from column line ≡ word column (take (position_or_len is_blank line) line)
     ∷ words_from (column + position_or_len is_blank line) (drop (position_or_len is_blank line) line)

@@ -204,7 +204,7 @@ inside_from rows a o (l ∷ w) n k q d c p h =
 pub decode_inside : (rows : List Row) (a : ℕ) (w : List Letter) → a ≤ 1 → All (λ r. IsInside (length w + 1) r) (decode rows a w)
 decode_inside rows a w o = inside_from rows a o w (length w + 1) 0 0 None None (omega arith) (start_placed a)
 
--- the same by recursion on the list
+-- each decoded range lies inside the series, by recursion on the list
 pub decode_inside_each : (rows : List Row) (a : ℕ) (w : List Letter) → a ≤ 1 → AllByRecursion (λ r. IsInside (length w + 1) r) (decode rows a w)
 decode_inside_each rows a w o = recursion_from_All (λ r. IsInside (length w + 1) r) (decode rows a w) (decode_inside rows a w o)
 

@@ -71,7 +71,7 @@ pub record MeetsChecks {X : Type 0} (f : Phase) (k' : Kind) (free : Bool) (sv : 
 abbrev pub After : ℕ → Entry ℕ Shape Tag → Type 0
 After s e = (l : Letter) (v : List Letter) → InLanguage e.residual (l ∷ v) → s < e.mark
 
--- the same for any word
+-- the pair starts before each entry, whatever word it has
 abbrev pub Strictly : ℕ → Entry ℕ Shape Tag → Type 0
 Strictly s e = (v : List Letter) → InLanguage e.residual v → s < e.mark
 
