@@ -27,10 +27,11 @@ use Rattle.ts_glue.specs.Pairs.{Pair}
 use Rattle.ts_glue.specs.Glued.{glue_span_at, glued_span}
 use Rattle.ts_glue.proofs.SpanGlue.{glued_spans_grow, wider_registers, same_grows}
 use Rattle.ts_hull.specs.Hulls.{hull_of, none, hull_of_both, hull_of_all}
+use Rattle.ts_meet.specs.Meets.{hull_of_spans}
 use Rattle.ts_bound.specs.NextRow.{Source, source, hull_from, next_hull, states_of}
 use Rattle.ts_bound.specs.HullTables.{hull_at, cells_before, cells_after}
 use Rattle.ts_bound.specs.Looks.{place_in}
-use Rattle.ts_bound.specs.TermSpans.{Automata, standing_in, span_of_all, finish_spans, glued_spans, spans_at, inner_value_span, inner_span, term_span}
+use Rattle.ts_bound.specs.TermSpans.{Automata, standing_in, finish_spans, glued_spans, spans_at, inner_value_span, inner_span, term_span}
 use Rattle.ts_bound.specs.Laws.{Splits, AreAutomata}
 use Rattle.ts_bound.proofs.Reached.{Any, any_of_map, any_flat, any_range, any_flat_range, any_mapped, spans_take}
 use Rattle.ts_bound.proofs.TableLaws.{all_range}
@@ -190,10 +191,10 @@ hull_in : (h : Span) (ss : List Span) (s : Span) → IsWithin s h → AllByRecur
 hull_in h [] s p a = p
 hull_in h (t ∷ ss) s p a = hull_in h ss (span_hull s t) (hull_least s t h p a.0) a.1
 
-all_in : (h : Span) (ss : List Span) → AllByRecursion (λ t. IsWithin t h) ss → IsWithin (span_of_all ss) h
+all_in : (h : Span) (ss : List Span) → AllByRecursion (λ t. IsWithin t h) ss → IsWithin (hull_of_spans ss) h
 all_in h ss a = hull_in h ss none_span (λ e n. absurd (none_empty e n)) a
 
-in_all : (s : Span) (ts : List Span) → Any (λ t. IsWithin s t) ts → IsWithin s (span_of_all ts)
+in_all : (s : Span) (ts : List Span) → Any (λ t. IsWithin s t) ts → IsWithin s (hull_of_spans ts)
 in_all s ts a e h = spans_take e ts none_span (holding ts a)
   where
     holding : (ts : List Span) → Any (λ t. IsWithin s t) ts → Any (λ t. Holds t e) ts
@@ -258,7 +259,7 @@ module _ (mark : Mark) (h : Span)
   marked_in m e n s t w = subst (λ z. IsWithin (marked_span z n t) h → IsWithin (marked_span z n s) h) (sym e) (keeps n s t w)
 
   finishes_in : (b : Body) → b.mark ≡ mark → (n : ℕ) (before wider : List (List ℤ)) (v : ℤ) → IsInside before wider →
-      IsWithin (span_of_all (finish_spans b n wider v)) h → IsWithin (span_of_all (finish_spans b n before v)) h
+      IsWithin (hull_of_spans (finish_spans b n wider v)) h → IsWithin (hull_of_spans (finish_spans b n before v)) h
   unfolding finish_spans
   finishes_in b is n before wider v a all =
       let f : ℕ → Span = λ q. finish_span_of b (standing_in b before v q) n in
@@ -267,12 +268,12 @@ module _ (mark : Mark) (h : Span)
       (all_range (λ t. IsWithin t h) f (length b.states) 0 (length b.states) (omega arith) (λ q lt.
       marked_in b.mark is n (finished_span b (spans_of (hull_at b before v q))) (finished_span b (spans_of (hull_at b wider v q)))
       (finished_within b _ _ (hull_grows b before wider v q a))
-      (within_trans (g q) (span_of_all (map g (states_of b))) h
+      (within_trans (g q) (hull_of_spans (map g (states_of b))) h
       (in_all (g q) (map g (states_of b)) (any_range (λ t. IsWithin (g q) t) g 0 (length b.states) q (omega arith) (omega (arith, lt)) (λ e k. k))) all)))
 
   glued_in : (p : Pair) → p.forward.mark ≡ mark → (n : ℕ) (before wider behind rest : List (List ℤ)) (v : ℤ) → IsInside before wider →
       IsInside behind rest →
-      IsWithin (span_of_all (glued_spans p n wider rest v)) h → IsWithin (span_of_all (glued_spans p n before behind v)) h
+      IsWithin (hull_of_spans (glued_spans p n wider rest v)) h → IsWithin (hull_of_spans (glued_spans p n before behind v)) h
   unfolding glued_spans
   glued_in p is n before wider behind rest v a c all =
       let f : ℕ → ℕ → Span = λ q r. glued_span p (standing_in p.forward before v q) (standing_in p.reverse behind v r) v n in
@@ -287,21 +288,21 @@ module _ (mark : Mark) (h : Span)
       (glued_spans_grow p q r (spans_of (hull_at p.forward before v q)) (spans_of (hull_at p.reverse behind v r))
       (spans_of (hull_at p.forward wider v q)) (spans_of (hull_at p.reverse rest v r)) v
       (hull_grows p.forward before wider v q a) (hull_grows p.reverse behind rest v r c))
-      (within_trans (g q r) (span_of_all (flat_map G (states_of p.forward))) h
+      (within_trans (g q r) (hull_of_spans (flat_map G (states_of p.forward))) h
       (in_all (g q r) (flat_map G (states_of p.forward)) (any_flat_range (λ t. IsWithin (g q r) t) G 0 (length p.forward.states) q (omega arith)
       (omega (arith, lt))
       (any_range (λ t. IsWithin (g q r) t) (g q) 0 (length p.reverse.states) r (omega arith) (omega (arith, l)) (λ e k. k)))) all))))
 
   by_pair : (b : Body) (o : Option Pair) → b.mark ≡ mark → IfSome o (λ p. p.forward ≡ b) → (k : ℕ) (cells wider : List (List ℤ)) (v : ℤ) →
-      IsInside cells wider → IsWithin (span_of_all (spans_at b o k wider v)) h → IsWithin (span_of_all (spans_at b o k cells v)) h
+      IsInside cells wider → IsWithin (hull_of_spans (spans_at b o k wider v)) h → IsWithin (hull_of_spans (spans_at b o k cells v)) h
   unfolding spans_at
   by_pair b None is s k cells wider v a all =
       finishes_in b is (length cells) (cells_before k cells) (cells_before k wider) v (within_reverse _ _ (within_take (k - 1) cells wider a))
-      (subst (λ n. IsWithin (span_of_all (finish_spans b n (cells_before k wider) v)) h) (sym (same_length cells wider a)) all)
+      (subst (λ n. IsWithin (hull_of_spans (finish_spans b n (cells_before k wider) v)) h) (sym (same_length cells wider a)) all)
   by_pair b (Some p) is s k cells wider v a all =
       glued_in p (ap (λ z. z.mark) s ∙ is) (length cells) (cells_before k cells) (cells_before k wider) (cells_after k cells) (cells_after k wider) v
       (within_reverse _ _ (within_take (k - 1) cells wider a)) (within_drop k cells wider a)
-      (subst (λ n. IsWithin (span_of_all (glued_spans p n (cells_before k wider) (cells_after k wider) v)) h) (sym (same_length cells wider a)) all)
+      (subst (λ n. IsWithin (hull_of_spans (glued_spans p n (cells_before k wider) (cells_after k wider) v)) h) (sym (same_length cells wider a)) all)
 
   module _ (m : Automata) (is : m.forward.mark ≡ mark) (pair : IfSome m.pair (λ p. p.forward ≡ m.forward)) where
     value_in_inside : (k : ℕ) (cells wider : List (List ℤ)) (v : ℤ) → IsInside cells wider →
@@ -315,7 +316,7 @@ module _ (mark : Mark) (h : Span)
         all_in h (map (inner_value_span m k cells) (values_at k cells))
         (all_mapped (λ t. IsWithin t h) (inner_value_span m k cells) (values_at k cells) (λ v c.
         value_in_inside k cells wider v a
-        (within_trans (inner_value_span m k wider v) (span_of_all (map (inner_value_span m k wider) (values_at k wider))) h
+        (within_trans (inner_value_span m k wider v) (hull_of_spans (map (inner_value_span m k wider) (values_at k wider))) h
         (in_all (inner_value_span m k wider v) (map (inner_value_span m k wider) (values_at k wider))
         (any_mapped (λ t. IsWithin (inner_value_span m k wider v) t) (inner_value_span m k wider) (values_at k wider) v
         (within_at (k - 1) cells wider a v c) (λ e q. q))) all)))

@@ -31,10 +31,11 @@ use Rattle.ts_glue.proofs.CallerLemmas.{after_back, after_stands, cut_at, answer
 use Rattle.ts_hull.specs.Hulls.{hull_of, none, hull_of_both}
 use Rattle.ts_bound.specs.NextRow.{Source, source, standing_at, hull_from, next_hull, states_of}
 use Rattle.ts_bound.specs.HullTables.{start_hull, hull_at, cells_before}
-use Rattle.ts_bound.specs.TermSpans.{Automata, standing_in, span_of_all, finish_spans, glued_spans, spans_at, inner_value_span, inner_span, value_span, term_span, IsUsable, LooksIn}
+use Rattle.ts_bound.specs.TermSpans.{Automata, standing_in, finish_spans, glued_spans, spans_at, inner_value_span, inner_span, value_span, term_span, IsUsable, LooksIn}
 use Rattle.ts_bound.specs.Laws.{Splits, AreAutomata, SpansHold, ValueSpansAreNarrowed}
 use Rattle.ts_bound.specs.Looks.{is_looked, place_in}
 use Rattle.ts_hull.proofs.HullLaws.{IsCanonical, hull_canonical}
+use Rattle.ts_meet.specs.Meets.{hull_of_spans}
 use Rattle.ts_bound.proofs.Looking.{looked_length, place_bounds, place_usable, looked_get, looked_set, looked_miss}
 
 -- some element has it
@@ -389,7 +390,7 @@ spans_same b (Some p) k cells d v some =
 value_same : (m : Automata) (k : ℕ) (cells : List (List ℤ)) (d : List ℤ) (v : ℤ) → 1 ≤ k →
     inner_value_span m k (set cells (k - 1) d) v ≡ inner_value_span m k cells v
 unfolding inner_value_span
-value_same m k cells d v some = ap span_of_all (spans_same m.forward m.pair k cells d v some)
+value_same m k cells d v some = ap hull_of_spans (spans_same m.forward m.pair k cells d v some)
 
 all_canonical : (ss : List Span) (s : Span) → IsCanonical s → IsCanonical (fold span_hull s ss)
 all_canonical [] s h = h
@@ -411,7 +412,7 @@ pub inner_narrowed : (m : Automata) (cells : List (List ℤ)) (k : ℕ) → 1 �
 unfolding inner_span
 inner_narrowed m cells k some to v =
     let here : get_or (set cells (k - 1) (v ∷ [])) (k - 1) [] ≡ v ∷ [] = get_or-set_same cells (k - 1) (v ∷ []) [] (omega (arith, some, to)) in
-    ap (λ d. span_of_all (map (inner_value_span m k (set cells (k - 1) (v ∷ []))) d)) here
+    ap (λ d. hull_of_spans (map (inner_value_span m k (set cells (k - 1) (v ∷ []))) d)) here
     ∙ ap (λ s. span_hull none_span s) (value_same m k cells (v ∷ []) v some) ∙ none_before (inner_value_span m k cells v) (value_canonical m k cells v)
 
 pub values_narrowed : ValueSpansAreNarrowed

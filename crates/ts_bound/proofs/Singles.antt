@@ -23,10 +23,11 @@ use Rattle.ts_hull.specs.Hulls.{hull_of, none, hull_of_both, hull_of_all}
 use Rattle.ts_bound.specs.NextRow.{Source, source, hull_from, next_hull, states_of}
 use Rattle.ts_bound.specs.HullTables.{start_hull, hull_at, cells_before}
 use Rattle.ts_bound.specs.Looks.{place_in}
-use Rattle.ts_bound.specs.TermSpans.{Automata, standing_in, span_of_all, finish_spans, inner_value_span, inner_span, term_span}
+use Rattle.ts_bound.specs.TermSpans.{Automata, standing_in, finish_spans, inner_value_span, inner_span, term_span}
 use Rattle.ts_bound.specs.Blocks.{last_at}
 use Rattle.ts_bound.specs.Laws.{AreAutomata, SpansStaySingle}
 use Rattle.ts_hull.proofs.HullLaws.{IsCanonical, some_canonical, same_hull}
+use Rattle.ts_meet.specs.Meets.{hull_of_spans}
 use Rattle.ts_bound.proofs.Looking.{looked_length, looked_map, place_end}
 use Rattle.ts_bound.proofs.Reached.{run, turned}
 use Rattle.ts_bound.proofs.SpanEnds.{last_value_ends, finishes_are}
@@ -170,7 +171,7 @@ alone_take (suc i) (x ∷ xs) = ap (λ l. (x ∷ []) ∷ l) (alone_take i xs)
 
 -- the finish spans at the last cell
 finishes_single : (b : Body) → IsTrue (is_automaton b) → (n : ℕ) (vs : List ℤ) (v : ℤ) →
-    span_of_all (finish_spans b n (alone vs) v) ≡ one_span (finish_of b (run b v vs) n)
+    hull_of_spans (finish_spans b n (alone vs) v) ≡ one_span (finish_of b (run b v vs) n)
 unfolding finish_spans
 finishes_single b rules n vs v =
     let s = run b v vs in
@@ -200,10 +201,10 @@ inner_single m are xs some =
     let whole : reverse (x ∷ reverse (take i xs)) ≡ xs =
     turned (take i xs) x ∙ ap (λ t. take i xs ++ x ∷ t) (sym (drop_all (suc i) xs (omega (arith, some)))) ∙ cut_at xs i (pos 0) lt in
     let value : inner_value_span m n box x ≡ one_span (answer b xs) =
-    sym (last_value_ends m are n box x last) ∙ ap span_of_all (finishes_are b (cells_before n box) x (length box))
-    ∙ ap (λ t. span_of_all (finish_spans b (length box) t x)) before ∙ finishes_single b are.forward (length box) (reverse (take i xs)) x
+    sym (last_value_ends m are n box x last) ∙ ap hull_of_spans (finishes_are b (cells_before n box) x (length box))
+    ∙ ap (λ t. hull_of_spans (finish_spans b (length box) t x)) before ∙ finishes_single b are.forward (length box) (reverse (take i xs)) x
     ∙ ap (λ k. one_span (finish_of b (run b x (reverse (take i xs))) k)) (sym last) ∙ ap (λ ys. one_span (finish_of b (after b ys) n)) whole in
-    ap (λ d. span_of_all (map (inner_value_span m n box) d)) here ∙ ap (span_hull none_span) value ∙ none_one (answer b xs)
+    ap (λ d. hull_of_spans (map (inner_value_span m n box) d)) here ∙ ap (span_hull none_span) value ∙ none_one (answer b xs)
 
 pub spans_stay_single : SpansStaySingle
 unfolding term_span

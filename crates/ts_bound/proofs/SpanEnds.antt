@@ -31,10 +31,11 @@ use Rattle.ts_glue.proofs.TwoForms.{two_forms_agree}
 use Rattle.ts_hull.specs.Hulls.{hull_of, none}
 use Rattle.ts_bound.specs.NextRow.{states_of}
 use Rattle.ts_bound.specs.HullTables.{start_hull, hull_at, hulls_at, cells_before, cells_after}
-use Rattle.ts_bound.specs.TermSpans.{Automata, LooksIn, automata_of, standing_in, span_of_all, finish_spans, glued_spans, spans_at, inner_value_span, inner_span, value_span, term_span}
+use Rattle.ts_bound.specs.TermSpans.{Automata, LooksIn, automata_of, standing_in, finish_spans, glued_spans, spans_at, inner_value_span, inner_span, value_span, term_span}
 use Rattle.ts_bound.specs.Laws.{Splits, AreAutomata}
 use Rattle.ts_meet.specs.declared.joints.Joints.{Joints}
 use Rattle.ts_meet.specs.Joints.{AreJoints}
+use Rattle.ts_meet.specs.Meets.{hull_of_spans}
 use Rattle.ts_bound.specs.Blocks.{standing_of, finishes, glued_with, glued_all, back_hulls, back_states, split_at, last_at}
 use Rattle.ts_bound.specs.Looks.{is_looked, read_at, place_in}
 use Rattle.ts_hull.proofs.HullLaws.{IsCanonical, hull_canonical}
@@ -90,13 +91,13 @@ split_is : (m : Automata) (k : ℕ) (cells : List (List ℤ)) (v : ℤ) → IsSo
 unfolding split_at inner_value_span spans_at
 split_is m k cells v some is = go m.forward m.pair some is
   where
-    go : (b : Body) (o : Option Pair) → IsSome o → IsPairOf b o → split_at b o k cells v ≡ span_of_all (spans_at b o k cells v)
+    go : (b : Body) (o : Option Pair) → IsSome o → IsPairOf b o → split_at b o k cells v ≡ hull_of_spans (spans_at b o k cells v)
     go b None some is = cc
     go b (Some p) some is =
-        ap (λ f. span_of_all (glued_all (Some p) (hulls_at f (cells_before k cells) v) (hulls_at p.reverse (cells_after k cells) v) v (length cells)
+        ap (λ f. hull_of_spans (glued_all (Some p) (hulls_at f (cells_before k cells) v) (hulls_at p.reverse (cells_after k cells) v) v (length cells)
         (length p.reverse.states)
         (length f.states))) (sym is)
-        ∙ ap span_of_all (glued_are p (cells_before k cells) (cells_after k cells) v (length cells))
+        ∙ ap hull_of_spans (glued_are p (cells_before k cells) (cells_after k cells) v (length cells))
 
 pub split_value_ends : (m : Automata) (k : ℕ) (cells : List (List ℤ)) (v : ℤ) → IsSome m.pair → IsPairOf m.forward m.pair →
     split_at m.forward m.pair k cells v ≡ inner_value_span m k cells v
@@ -123,7 +124,7 @@ fold_each G g a (suc k) s h =
     ∙ fold_each G g (a + 1) k (span_hull s (g a)) h
 
 pub two_forms : (p : Pair) → IsTrue (keeps_rules p) → 1 ≤ length p.reverse.states → (n : ℕ) (before : List (List ℤ)) (v : ℤ) →
-    span_of_all (glued_spans p n before [] v) ≡ span_of_all (finish_spans p.forward n before v)
+    hull_of_spans (glued_spans p n before [] v) ≡ hull_of_spans (finish_spans p.forward n before v)
 unfolding glued_spans finish_spans hull_at start_hull
 two_forms p rules some n before v =
     fold_each (λ q. map (λ r. glued_span p (standing_in p.forward before v q) (standing_in p.reverse [] v r) v n) (states_of p.reverse))
@@ -146,17 +147,17 @@ last_is : (m : Automata) → AreAutomata m → (k : ℕ) (cells : List (List ℤ
     last_at m.forward k cells v ≡ inner_value_span m k cells v
 unfolding last_at inner_value_span spans_at
 last_is m are k cells last v =
-    ap span_of_all (finishes_are m.forward (cells_before k cells) v (length cells)) ∙ by_pair m.forward m.pair are.pair
+    ap hull_of_spans (finishes_are m.forward (cells_before k cells) v (length cells)) ∙ by_pair m.forward m.pair are.pair
   where
     by_pair : (b : Body) (o : Option Pair) → IfSome o (Splits b) →
-        span_of_all (finish_spans b (length cells) (cells_before k cells) v) ≡ span_of_all (spans_at b o k cells v)
+        hull_of_spans (finish_spans b (length cells) (cells_before k cells) v) ≡ hull_of_spans (spans_at b o k cells v)
     by_pair b None s = refl
     by_pair b (Some p) s =
         let none_after : cells_after k cells ≡ [] = drop_all k cells (omega (arith, last)) in
         let r = rules_of p.reverse s.reverse in
-        ap (λ f. span_of_all (finish_spans f (length cells) (cells_before k cells) v)) (sym s.forward)
+        ap (λ f. hull_of_spans (finish_spans f (length cells) (cells_before k cells) v)) (sym s.forward)
         ∙ sym (two_forms p s.rules (omega (arith, r.some)) (length cells) (cells_before k cells) v)
-        ∙ ap (λ t. span_of_all (glued_spans p (length cells) (cells_before k cells) t v)) (sym none_after)
+        ∙ ap (λ t. hull_of_spans (glued_spans p (length cells) (cells_before k cells) t v)) (sym none_after)
 
 pub last_value_ends : (m : Automata) → AreAutomata m → (k : ℕ) (cells : List (List ℤ)) (v : ℤ) → k ≡ length cells →
     last_at m.forward k cells v ≡ inner_value_span m k cells v
@@ -202,24 +203,25 @@ module _ (m : Automata) (k p : ℕ) (cells : List (List ℤ)) (looks : LooksIn m
 
   -- all values of it were taken in
   pub term_taken : (i : ℕ) (span : Span) → length (values_at k cells) ≤ i →
-      span ≡ span_of_all (take i (map (value_there m k cells) (values_at k cells))) → span ≡ term_span m p cells
+      span ≡ hull_of_spans (take i (map (value_there m k cells) (values_at k cells))) → span ≡ term_span m p cells
   unfolding term_span inner_span
   term_taken i span all e =
       let inner = looked_at m.window cells in
       let l = length-map (values_at k cells) (value_there m k cells) in
-      e ∙ ap span_of_all (take_all i (map (value_there m k cells) (values_at k cells)) (omega (arith, l, all)))
-      ∙ ap (λ d. span_of_all (map (value_there m k cells) d)) (sym (looked_get cells k m.window [] looks read_there.2))
-      ∙ ap (λ j. span_of_all (map (inner_value_span m j inner) (values_at j inner))) place_same
+      e ∙ ap hull_of_spans (take_all i (map (value_there m k cells) (values_at k cells)) (omega (arith, l, all)))
+      ∙ ap (λ d. hull_of_spans (map (value_there m k cells) d)) (sym (looked_get cells k m.window [] looks read_there.2))
+      ∙ ap (λ j. hull_of_spans (map (inner_value_span m j inner) (values_at j inner))) place_same
 
 pub value_taken : (m : Automata) (k : ℕ) (cells : List (List ℤ)) (i : ℕ) (v : ℤ) (span one both : Span) → i < length (values_at k cells) →
     slice_get (values_at k cells) i ≡ Some v → one ≡ value_there m k cells v → both ≡ span_hull span one →
-    span ≡ span_of_all (take i (map (value_there m k cells) (values_at k cells))) →
-    both ≡ span_of_all (take (i + 1) (map (value_there m k cells) (values_at k cells)))
+    span ≡ hull_of_spans (take i (map (value_there m k cells) (values_at k cells))) →
+    both ≡ hull_of_spans (take (i + 1) (map (value_there m k cells) (values_at k cells)))
 value_taken m k cells i v span one both lt at is_one is_both inv =
     let f = value_there m k cells in let values = values_at k cells in
     let l = length-map values f in
-    is_both ∙ ap (λ s. span_hull s one) inv ∙ ap (span_hull (span_of_all (take i (map f values)))) (is_one ∙ ap f (sym (get_or_from_slice_get values i v v at))
-    ∙ sym (get_or-map f values i v none_span lt))
+    is_both ∙ ap (λ s. span_hull s one) inv
+    ∙ ap (span_hull (hull_of_spans (take i (map f values))))
+    (is_one ∙ ap f (sym (get_or_from_slice_get values i v v at)) ∙ sym (get_or-map f values i v none_span lt))
     ∙ sym (fold_more span_hull none_span (map f values) i none_span (omega (arith, l, lt)))
 
 pub value_inside : (m : Automata) (p : ℕ) (cells : List (List ℤ)) (v : ℤ) (s : Span) → is_looked m.window p ≡ true → s ≡ value_there m p cells v →
@@ -234,22 +236,22 @@ value_outside m p cells v s there e = e ∙ sym (ap (λ t. cond t (value_there m
 
 pub last_one : (b : Body) (k : ℕ) (cells : List (List ℤ)) (v : ℤ) (hs : List Hull) (n : ℕ) (one : Span) → hs ≡ hulls_at b (cells_before k cells) v →
     n ≡ length cells →
-    one ≡ span_of_all (finishes b hs n (length b.states)) → one ≡ last_at b k cells v
+    one ≡ hull_of_spans (finishes b hs n (length b.states)) → one ≡ last_at b k cells v
 unfolding last_at
 last_one b k cells v hs n one is is_n is_one =
-    is_one ∙ ap (λ h. span_of_all (finishes b h n (length b.states))) is
-    ∙ ap (λ i. span_of_all (finishes b (hulls_at b (cells_before k cells) v) i (length b.states))) is_n
+    is_one ∙ ap (λ h. hull_of_spans (finishes b h n (length b.states))) is
+    ∙ ap (λ i. hull_of_spans (finishes b (hulls_at b (cells_before k cells) v) i (length b.states))) is_n
 
 pub split_one : (b : Body) (o : Option Pair) (k : ℕ) (cells : List (List ℤ)) (v v' : ℤ) (left right : List Hull) (n m : ℕ) (one : Span) → v' ≡ v →
     left ≡ hulls_at b (cells_before k cells) v → right ≡ back_hulls o (cells_after k cells) v → n ≡ length cells → m ≡ back_states o →
-    one ≡ span_of_all (glued_all o left right v' n m (length b.states)) → one ≡ split_at b o k cells v
+    one ≡ hull_of_spans (glued_all o left right v' n m (length b.states)) → one ≡ split_at b o k cells v
 unfolding split_at
 split_one b o k cells v v' left right n m one is_v is_left is_right is_n is_m is_one =
-    is_one ∙ ap (λ x. span_of_all (glued_all o left right x n m (length b.states))) is_v
-    ∙ ap (λ h. span_of_all (glued_all o h right v n m (length b.states))) is_left
-    ∙ ap (λ h. span_of_all (glued_all o (hulls_at b (cells_before k cells) v) h v n m (length b.states))) is_right
-    ∙ ap (λ i. span_of_all (glued_all o (hulls_at b (cells_before k cells) v) (back_hulls o (cells_after k cells) v) v i m (length b.states))) is_n
-    ∙ ap (λ i. span_of_all (glued_all o (hulls_at b (cells_before k cells) v) (back_hulls o (cells_after k cells) v) v (length cells) i
+    is_one ∙ ap (λ x. hull_of_spans (glued_all o left right x n m (length b.states))) is_v
+    ∙ ap (λ h. hull_of_spans (glued_all o h right v n m (length b.states))) is_left
+    ∙ ap (λ h. hull_of_spans (glued_all o (hulls_at b (cells_before k cells) v) h v n m (length b.states))) is_right
+    ∙ ap (λ i. hull_of_spans (glued_all o (hulls_at b (cells_before k cells) v) (back_hulls o (cells_after k cells) v) v i m (length b.states))) is_n
+    ∙ ap (λ i. hull_of_spans (glued_all o (hulls_at b (cells_before k cells) v) (back_hulls o (cells_after k cells) v) v (length cells) i
     (length b.states))) is_m
 
 -- values lie within the limits
@@ -276,11 +278,11 @@ back_count (Some p) j some h = h.right_states
 
 pub glued_there : (f : Body) (o : Option Pair) (j : Joints) (left right : List Hull) (x : ℤ) (n : ℕ) (one : Span) → IsSome o → IsPairOf f o →
     IfSome o (λ p. AreJoints p j) →
-    ((p : Pair) → AreJoints p j → one ≡ span_of_all (glued_all (Some p) left right x n j.right_states j.left_states)) →
-    one ≡ span_of_all (glued_all o left right x n j.right_states (length f.states))
+    ((p : Pair) → AreJoints p j → one ≡ hull_of_spans (glued_all (Some p) left right x n j.right_states j.left_states)) →
+    one ≡ hull_of_spans (glued_all o left right x n j.right_states (length f.states))
 glued_there f None j left right x n one some is h told = cc
 glued_there f (Some p) j left right x n one some is h told =
-    told p h ∙ ap (λ k. span_of_all (glued_all (Some p) left right x n j.right_states k)) (front_count f (Some p) j some is h)
+    told p h ∙ ap (λ k. hull_of_spans (glued_all (Some p) left right x n j.right_states k)) (front_count f (Some p) j some is h)
 
 -- what the type of a machine keeps, seen through it
 

@@ -16,8 +16,8 @@ use Rattle.ts_automaton.specs.SpanRun.{finish_span_of}
 use Rattle.ts_glue.specs.Pairs.{Pair}
 use Rattle.ts_glue.specs.Glued.{glued_span}
 use Rattle.ts_hull.specs.Hulls.{none}
+use Rattle.ts_meet.specs.Meets.{hull_of_spans}
 use Rattle.ts_bound.specs.HullTables.{hull_at, hulls_at, row_of, cells_before, cells_after, rows_behind, forward_rows, backward_rows, forward_table, backward_table}
-use Rattle.ts_bound.specs.TermSpans.{span_of_all}
 use Rattle.ts_bound.specs.Blocks.{standing_of, glued_by, finishes, glued_with, glued_all, OfReverse, AreBackRows, back_hulls, back_states}
 use Rattle.ts_bound.proofs.TableLaws.{length-forward, length-backward}
 use Rattle.ts_bound.specs.Rows.{IsRow, row_at, windowed}
@@ -42,7 +42,7 @@ flat_push : {A B : Type 0} (f : A → List B) (xs : List A) (x : A) → flat_map
 flat_push f [] x = append-nil (f x)
 flat_push f (y ∷ xs) x = ap (λ l. f y ++ l) (flat_push f xs x) ∙ sym (append_assoc (f y) (flat_map f xs) (f x))
 
-pub finish_begun : (b : Body) (hulls : List Hull) (n : ℕ) (span : Span) → span ≡ none_span → span ≡ span_of_all (finishes b hulls n 0)
+pub finish_begun : (b : Body) (hulls : List Hull) (n : ℕ) (span : Span) → span ≡ none_span → span ≡ hull_of_spans (finishes b hulls n 0)
 unfolding finishes
 finish_begun b hulls n span e = e
 
@@ -52,20 +52,20 @@ unfolding glued_with
 with_begun p left right x n before = refl
 
 pub all_begun : (p : Option Pair) (left right : List Hull) (x : ℤ) (n m : ℕ) (span : Span) → span ≡ none_span →
-    span ≡ span_of_all (glued_all p left right x n m 0)
+    span ≡ hull_of_spans (glued_all p left right x n m 0)
 unfolding glued_all
 all_begun p left right x n m span e = e
 
 pub finish_more : (b : Body) (hulls : List Hull) (n q : ℕ) (h d : Hull) (span one : Span) → q < length hulls → h ≡ get_or hulls q d →
-    one ≡ finish_span_of b (record { state = q; regs = spans_of h }) n → span ≡ span_of_all (finishes b hulls n q) →
-    span_hull span one ≡ span_of_all (finishes b hulls n (q + 1))
+    one ≡ finish_span_of b (record { state = q; regs = spans_of h }) n → span ≡ hull_of_spans (finishes b hulls n q) →
+    span_hull span one ≡ hull_of_spans (finishes b hulls n (q + 1))
 unfolding finishes
 finish_more b hulls n q h d span one lt is_h is_one inv =
     let f : ℕ → Span = λ q. finish_span_of b (standing_of hulls q) n in
     let here : h ≡ get_or hulls q none = is_h ∙ get_or_default hulls q d none lt in
-    ap (λ s. span_hull s one) inv ∙ ap (span_hull (span_of_all (map f (range_with_len 0 q))))
+    ap (λ s. span_hull s one) inv ∙ ap (span_hull (hull_of_spans (map f (range_with_len 0 q))))
     (is_one ∙ ap (λ x. finish_span_of b (record { state = q; regs = spans_of x }) n) here)
-    ∙ sym (ap span_of_all (ap (map f) (range_more q q refl) ∙ map_push f (range_with_len 0 q) q)
+    ∙ sym (ap hull_of_spans (ap (map f) (range_more q q refl) ∙ map_push f (range_with_len 0 q) q)
     ∙ fold-append span_hull none_span (map f (range_with_len 0 q)) (f q ∷ []))
 
 pub split_some : (p : Option Pair) (P : Body → Type 0) → OfReverse p P → IsSome p
@@ -94,8 +94,8 @@ with_more p left right x x' n q h d before span one k is_x lt is_h is_one inv =
 
 pub all_more : (p : Option Pair) (left right : List Hull) (x x' : ℤ) (n m q : ℕ) (h d : Hull) (span span' : Span) → x' ≡ x → q < length left →
     h ≡ get_or left q d →
-    span' ≡ fold span_hull span (glued_with p (record { state = q; regs = spans_of h }) right x' n m) → span ≡ span_of_all (glued_all p left right x n m q) →
-    span' ≡ span_of_all (glued_all p left right x n m (q + 1))
+    span' ≡ fold span_hull span (glued_with p (record { state = q; regs = spans_of h }) right x' n m) → span ≡ hull_of_spans (glued_all p left right x n m q) →
+    span' ≡ hull_of_spans (glued_all p left right x n m (q + 1))
 unfolding glued_all
 all_more p left right x x' n m q h d span span' is_x lt is_h step inv =
     let f : ℕ → List Span = λ q. glued_with p (standing_of left q) right x n m in
@@ -103,7 +103,7 @@ all_more p left right x x' n m q h d span span' is_x lt is_h step inv =
     step ∙ ap (λ y. fold span_hull span (glued_with p (record { state = q; regs = spans_of h }) right y n m)) is_x
     ∙ ap (λ z. fold span_hull span (glued_with p (record { state = q; regs = spans_of z }) right x n m)) here
     ∙ ap (λ s. fold span_hull s (f q)) inv
-    ∙ sym (ap span_of_all (ap (flat_map f) (range_more q q refl) ∙ flat_push f (range_with_len 0 q) q)
+    ∙ sym (ap hull_of_spans (ap (flat_map f) (range_more q q refl) ∙ flat_push f (range_with_len 0 q) q)
     ∙ fold-append span_hull none_span (flat_map f (range_with_len 0 q)) (f q))
 
 -- the hulls of one value of a row

@@ -12,8 +12,8 @@ use Rattle.ts_automaton.specs.SpanRun.{finish_span_of}
 use Rattle.ts_glue.specs.Pairs.{Pair}
 use Rattle.ts_glue.specs.Glued.{glued_span}
 use Rattle.ts_hull.specs.Hulls.{none}
+use Rattle.ts_meet.specs.Meets.{hull_of_spans}
 use Rattle.ts_bound.specs.HullTables.{hulls_at, cells_before, cells_after, backward_table}
-use Rattle.ts_bound.specs.TermSpans.{span_of_all}
 
 -- the state q with its hull
 abbrev pub standing_of : List Hull → ℕ → Standing Span
@@ -57,11 +57,11 @@ back_states (Some p) = length p.reverse.states
 -- the span at the value v of cell k, glued
 unfoldable pub split_at : Body → Option Pair → ℕ → List (List ℤ) → ℤ → Span
 split_at b p k cells v =
-    span_of_all
+    hull_of_spans
     (glued_all p (hulls_at b (cells_before k cells) v) (back_hulls p (cells_after k cells) v) v (length cells)
     (back_states p) (length b.states))
 
 -- the span at the value v of the last cell
 unfoldable pub last_at : Body → ℕ → List (List ℤ) → ℤ → Span
 last_at b k cells v =
-    span_of_all (finishes b (hulls_at b (cells_before k cells) v) (length cells) (length b.states))
+    hull_of_spans (finishes b (hulls_at b (cells_before k cells) v) (length cells) (length b.states))

@@ -1,8 +1,7 @@
 -- The span of a machine at a cell of a box: of its answers on the series of the box, as far as the hulls there tell.
-use Rattle.std.specs.Prelude.{◌≡◌, ℕ, ◌≤◌, ℤ, List, length, map, flat_map, fold, if◌then◌else◌, Option, None, Some}
+use Rattle.std.specs.Prelude.{◌≡◌, ℕ, ◌≤◌, ℤ, List, length, map, flat_map, if◌then◌else◌, Option, None, Some}
 use Rattle.ts_base.specs.declared.range.Range.{Range}
 use Rattle.ts_base.specs.declared.span.Span.{Span}
-use Rattle.ts_base.specs.Spans.{none_span, span_hull}
 use Rattle.ts_base.specs.Windows.{LooksInside, looked_at}
 use Rattle.ts_automaton.specs.Registers.{spans_of}
 use Rattle.ts_automaton.specs.Body.{Body}
@@ -13,6 +12,7 @@ use Rattle.ts_glue.specs.declared.machine.Machine.{Machine}
 use Rattle.ts_glue.specs.Pairs.{Pair}
 use Rattle.ts_glue.specs.Machines.{forward_of, pair_of, window_of}
 use Rattle.ts_glue.specs.Glued.{glued_span}
+use Rattle.ts_meet.specs.Meets.{hull_of_spans}
 use Rattle.ts_bound.specs.NextRow.{states_of}
 use Rattle.ts_bound.specs.HullTables.{hull_at, cells_before, cells_after}
 use Rattle.ts_bound.specs.Looks.{is_looked, place_in}
@@ -30,10 +30,6 @@ automata_of m = record { forward = forward_of m; pair = pair_of m; window = wind
 -- the window ends at a cell of the box
 abbrev pub LooksIn : Automata → List (List ℤ) → Type 0
 LooksIn m cells = LooksInside (length cells) m.window
-
--- the hull of all spans, in their order; none where there is none
-abbrev pub span_of_all : List Span → Span
-span_of_all ss = fold span_hull none_span ss
 
 -- the state q with its hull at the value v of a cell
 abbrev pub standing_in : Body → List (List ℤ) → ℤ → ℕ → Standing Span
@@ -58,11 +54,11 @@ spans_at b (Some p) k cells v = glued_spans p (length cells) (cells_before k cel
 
 -- over cells that are all looked at: the span at cell k, with the value v there
 unfoldable pub inner_value_span : Automata → ℕ → List (List ℤ) → ℤ → Span
-inner_value_span m k cells v = span_of_all (spans_at m.forward m.pair k cells v)
+inner_value_span m k cells v = hull_of_spans (spans_at m.forward m.pair k cells v)
 
 -- over cells that are all looked at: the span at cell k, the hull of those of its values
 unfoldable pub inner_span : Automata → ℕ → List (List ℤ) → Span
-inner_span m k cells = span_of_all (map (inner_value_span m k cells) (values_at k cells))
+inner_span m k cells = hull_of_spans (map (inner_value_span m k cells) (values_at k cells))
 
 -- the span at cell k of a box: that of the cells that are looked at, at its place there; at a cell outside the window
 -- the span at the window's last cell

@@ -7,11 +7,10 @@ ghost use Rattle.ts_base.specs.Limits.{IsCellValue};
 ghost use Rattle.ts_base.specs.Spans.{span_hull};
 ghost use Rattle.ts_bound.specs.Blocks.{finishes, glued_all, glued_with};
 ghost use Rattle.ts_bound.specs.Fits.{HullFits, HullsFit};
-ghost use Rattle.ts_bound.specs.TermSpans.{span_of_all};
 ghost use Rattle.ts_glue.specs.Glued.{glued_span};
 ghost use Rattle.ts_glue.specs.Pairs.{Pair};
 ghost use Rattle.ts_meet.specs.Joints.{AreJoints};
-ghost use Rattle.ts_meet.specs.Meets.{standing};
+ghost use Rattle.ts_meet.specs.Meets.{hull_of_spans, standing};
 
 use crate::packing::packed;
 use ts_automaton::{Automaton, Hull};
@@ -22,7 +21,7 @@ use ts_meet::{Joints, Spot, finish_of, glued_pair};
 pub(crate) fn finish_block(a: &Automaton, hulls: &[Hull], n: u32) -> Span
     requires states { length hulls.now ≡ length a.now.states }
     requires fit { HullsFit hulls.now }
-    ensures { result ≡ span_of_all (finishes a.now hulls.now n (length a.now.states)) }
+    ensures { result ≡ hull_of_spans (finishes a.now hulls.now n (length a.now.states)) }
 {
     let states = a.states();
     let mut span = Span::none();
@@ -50,7 +49,7 @@ pub(crate) fn glue_block(joints: &Joints, left: &[Hull], right: &[Hull], cell: i
     requires left_fit { HullsFit left.now }
     requires right_fit { HullsFit right.now }
     requires cell { IsCellValue cell }
-    ensures { (p : Pair) → AreJoints p joints.now → result ≡ span_of_all
+    ensures { (p : Pair) → AreJoints p joints.now → result ≡ hull_of_spans
         (glued_all (Some p) left.now right.now cell n joints.now.right_states joints.now.left_states) }
 {
     let mut span = Span::none();

@@ -11,8 +11,8 @@ use Rattle.ts_base.specs.Spans.{none_span, span_hull}
 use Rattle.ts_automaton.specs.declared.regs.Hull.{Hull}
 use Rattle.ts_automaton.specs.Body.{Body}
 use Rattle.ts_domain.specs.BoxSeries.{IsBox}
+use Rattle.ts_meet.specs.Meets.{hull_of_spans}
 use Rattle.ts_bound.specs.HullTables.{hulls_at, row_of}
-use Rattle.ts_bound.specs.TermSpans.{span_of_all}
 use Rattle.ts_bound.proofs.SpanEnds.{within_of}
 use Rattle.ts_bound.proofs.SpanRuns.{length-hulls_at}
 use Rattle.ts_filter.specs.Boxes.{Box, values_at}
@@ -49,12 +49,12 @@ cell_value b k i v box some to e = value_fits (values_at k b) i v (within_of b (
 -- the hull of the spans of the values so far
 
 pub span_more : (f : ℤ → Span) (values : List ℤ) (i : ℕ) (v : ℤ) (span one both : Span) → i < length values → slice_get values i ≡ Some v → one ≡ f v →
-    both ≡ span_hull span one → span ≡ span_of_all (map f (take i values)) → both ≡ span_of_all (map f (take (i + 1) values))
+    both ≡ span_hull span one → span ≡ hull_of_spans (map f (take i values)) → both ≡ hull_of_spans (map f (take (i + 1) values))
 span_more f values i v span one both lt e is_one is_both inv =
-    let so_far = span_of_all (map f (take i values)) in
+    let so_far = hull_of_spans (map f (take i values)) in
     is_both ∙ ap (λ s. span_hull s one) inv ∙ ap (span_hull so_far) is_one
-    ∙ sym (ap (λ l. span_of_all (map f l)) (take_more values i v lt ∙ ap (λ x. take i values ++ x ∷ []) (get_or_from_slice_get values i v v e))
-    ∙ ap span_of_all (map-append f (take i values) (v ∷ [])) ∙ fold-append span_hull none_span (map f (take i values)) (f v ∷ []))
+    ∙ sym (ap (λ l. hull_of_spans (map f l)) (take_more values i v lt ∙ ap (λ x. take i values ++ x ∷ []) (get_or_from_slice_get values i v v e))
+    ∙ ap hull_of_spans (map-append f (take i values) (v ∷ [])) ∙ fold-append span_hull none_span (map f (take i values)) (f v ∷ []))
 
 -- the values from a place on
 

@@ -1,8 +1,9 @@
 -- The cells that a machine looks at: where a span is read.
 use Rattle.std.proofs.Common.{◌≡◌, ℕ, ◌-◌, ◌≤◌, true, false, cond, [], length, map, ℤ, None, refl, sym, ap, ◌∙◌, subst, arith}
 use Rattle.ts_base.specs.Windows.{looked_at}
+use Rattle.ts_meet.specs.Meets.{hull_of_spans}
 use Rattle.ts_bound.specs.Looks.{is_looked, first_looked, last_looked, read_at, place_in}
-use Rattle.ts_bound.specs.TermSpans.{Automata, LooksIn, inner_span, inner_value_span, span_of_all, term_span, value_span}
+use Rattle.ts_bound.specs.TermSpans.{Automata, LooksIn, inner_span, inner_value_span, term_span, value_span}
 use Rattle.ts_bound.proofs.Looking.{ends_inside, looked_bounds, looked_by, looked_get, looked_length, place_end, place_inside, place_read, read_inside, read_inside_box, read_outside}
 use Rattle.ts_filter.specs.Boxes.{Box, HasCell, values_at}
 use Rattle.ts_filter.specs.CellHulls.{HasHulls}
@@ -70,12 +71,12 @@ module _ (a : Automata) (k : ℕ) (b : Box) (h : HasHulls a k b) where
   pub value_inside : (v : ℤ) → value_span a k b v ≡ inner_value_span a (place_in a.window k) (looked_at a.window b) v
   value_inside v = value_looked a k b v is_there
 
-  pub span_inside : term_span a k b ≡ span_of_all (map (value_span a k b) (values_at k b))
+  pub span_inside : term_span a k b ≡ hull_of_spans (map (value_span a k b) (values_at k b))
   unfolding value_span term_span inner_span
   span_inside =
       let inner = inner_value_span a (place_in a.window k) (looked_at a.window b) in
-      ap (λ vs. span_of_all (map inner vs)) inner_values
-      ∙ ap (λ t. span_of_all (map (λ v. cond t (inner v) (term_span a k b)) (values_at k b))) (sym is_there)
+      ap (λ vs. hull_of_spans (map inner vs)) inner_values
+      ∙ ap (λ t. hull_of_spans (map (λ v. cond t (inner v) (term_span a k b)) (values_at k b))) (sym is_there)
 
 -- outside the window
 

@@ -16,11 +16,10 @@ use Rattle.ts_glue.specs.Glue.{is_wide}
 use Rattle.ts_glue.specs.Pairs.{Pair}
 use Rattle.ts_meet.specs.Along.{finish_along, hull_over}
 use Rattle.ts_meet.specs.Joints.{AreJoints}
-use Rattle.ts_meet.specs.Meets.{finish_hull}
+use Rattle.ts_meet.specs.Meets.{finish_hull, hull_of_spans}
 use Rattle.ts_meet.proofs.Places.{over_more, over_none}
 use Rattle.ts_bound.specs.Blocks.{finishes, last_at, split_at}
 use Rattle.ts_bound.specs.HullTables.{cells_after, cells_before, hulls_at}
-use Rattle.ts_bound.specs.TermSpans.{span_of_all}
 use Rattle.ts_bound.proofs.SpanEnds.{IsPairOf, last_one}
 use Rattle.ts_bound.specs.declared.any_row.AnyRow.{AnyRow}
 use Rattle.ts_bound.specs.AnyRows.{IsRowOf, columns, form_of, form_sides, glued_between, lanes_of, viewed}
@@ -48,9 +47,9 @@ all_form : (xs : List Span) (s : Span) → span_hull s none_span ≡ s → span_
 all_form [] s e = e
 all_form (x ∷ xs) s e = all_form xs (span_hull s x) (hull_canonical s x)
 
-all_append : (xs ys : List Span) → span_of_all (xs ++ ys) ≡ span_hull (span_of_all xs) (span_of_all ys)
+all_append : (xs ys : List Span) → hull_of_spans (xs ++ ys) ≡ span_hull (hull_of_spans xs) (hull_of_spans ys)
 all_append xs ys =
-    fold-append span_hull none_span xs ys ∙ ap (λ z. fold span_hull z ys) (sym (all_form xs none_span refl)) ∙ hull_front ys (span_of_all xs) none_span
+    fold-append span_hull none_span xs ys ∙ ap (λ z. fold span_hull z ys) (sym (all_form xs none_span refl)) ∙ hull_front ys (hull_of_spans xs) none_span
 
 pub map_same : (f g : ℤ → Span) (values : List ℤ) → ((v : ℤ) → f v ≡ g v) → map f values ≡ map g values
 map_same f g [] h = refl
@@ -60,22 +59,22 @@ map_same f g (v ∷ vs) h = ap (λ s. s ∷ map f vs) (h v) ∙ ap (λ l. g v �
 
 module _ (asked : Question) (f : ℕ → Span) (g : ℤ → Span) (values : List ℤ) where
   one_found : (m : ℕ) → m < length values → FindsAlike asked (f m) (g (get_or values m (pos 0))) →
-      FindsAlike asked (hull_over f m) (span_of_all (map g (take m values))) →
-      FindsAlike asked (hull_over f (m + 1)) (span_of_all (map g (take (m + 1) values)))
+      FindsAlike asked (hull_over f m) (hull_of_spans (map g (take m values))) →
+      FindsAlike asked (hull_over f (m + 1)) (hull_of_spans (map g (take (m + 1) values)))
   one_found m lt h before =
-      let x = get_or values m (pos 0) in let front = span_of_all (map g (take m values)) in
-      subst (λ z. FindsAlike asked z (span_of_all (map g (take (m + 1) values)))) (sym (over_more f m))
+      let x = get_or values m (pos 0) in let front = hull_of_spans (map g (take m values)) in
+      subst (λ z. FindsAlike asked z (hull_of_spans (map g (take (m + 1) values)))) (sym (over_more f m))
       (subst (FindsAlike asked (span_hull (hull_over f m) (f m)))
-      (sym (ap (λ l. span_of_all (map g l)) (take_more values m (pos 0) lt)
-      ∙ ap span_of_all (map-append g (take m values) (x ∷ [])) ∙ fold-append span_hull none_span (map g (take m values)) (g x ∷ [])))
+      (sym (ap (λ l. hull_of_spans (map g l)) (take_more values m (pos 0) lt)
+      ∙ ap hull_of_spans (map-append g (take m values) (x ∷ [])) ∙ fold-append span_hull none_span (map g (take m values)) (g x ∷ [])))
       (finds_both asked (hull_over f m) front (f m) (g x) before h))
 
   pub over_found : (m : ℕ) → m ≤ length values → ((i : ℕ) → i < m → FindsAlike asked (f i) (g (get_or values i (pos 0)))) →
-      FindsAlike asked (hull_over f m) (span_of_all (map g (take m values)))
+      FindsAlike asked (hull_over f m) (hull_of_spans (map g (take m values)))
   over_found zero le h = finds_same asked (hull_over f 0) none_span (over_none f)
   over_found (suc m) le h =
       let e : m + 1 ≡ suc m = omega arith in
-      subst (λ k. FindsAlike asked (hull_over f k) (span_of_all (map g (take k values)))) e
+      subst (λ k. FindsAlike asked (hull_over f k) (hull_of_spans (map g (take k values)))) e
       (one_found m (omega (arith, le)) (h m (omega arith)) (over_found m (omega (arith, le)) (λ i lt. h i (omega (arith, lt)))))
 
 at_place : (values : List ℤ) (from i : ℕ) → get_or (drop from values) i (pos 0) ≡ get_or values (from + i) (pos 0)
@@ -103,11 +102,11 @@ module _ (asked : Question) (f : Body) (place : ℕ) (cells : Box) (values : Lis
     (listed : (i : ℕ) → i < to - from → get_or list i (pos 0) ≡ get_or values (from + i) (pos 0)) where
   split_some : (p : Pair) → IsPairOf f (Some p) → p.forward.wide ≡ is_wide p → IsSide (Some p) (cells_after place cells) values side →
       FindsAlike asked (hull_over (λ i. glued_between p row (viewed side.row) (from + i) (get_or list i (pos 0)) n) (length list))
-      (span_of_all (map (split_at f (Some p) place cells) (places_of from to values)))
+      (hull_of_spans (map (split_at f (Some p) place cells) (places_of from to values)))
   split_some p is width h =
       let g : ℤ → Span = split_at f (Some p) place cells in
       let there : ℕ → Span = λ i. glued_between p row (viewed side.row) (from + i) (get_or list i (pos 0)) n in
-      subst (λ m. FindsAlike asked (hull_over there m) (span_of_all (map g (places_of from to values)))) (sym long)
+      subst (λ m. FindsAlike asked (hull_over there m) (hull_of_spans (map g (places_of from to values)))) (sym long)
       (over_found asked there g (drop from values) (to - from) (few_left values from to order inside)
       (λ i lt.
       let v = get_or values (from + i) (pos 0) in let before : from + i < length values = omega (arith, lt, inside, order) in
@@ -121,7 +120,7 @@ module _ (asked : Question) (f : Body) (place : ℕ) (cells : Box) (values : Lis
       IsSide o (cells_after place cells) values side →
       ((p : Pair) → AreJoints p side.joints.now →
       Told (hull_over (λ i. glued_between p row (viewed side.row) (from + i) (get_or list i (pos 0)) n) (length list))) →
-      (s : Span) × FindsAlike asked s (span_of_all (map (split_at f o place cells) (places_of from to values))) × Told s
+      (s : Span) × FindsAlike asked s (hull_of_spans (map (split_at f o place cells) (places_of from to values))) × Told s
   many_split Told None is width h told = absurd h
   many_split Told (Some p) is width h told =
       let s = hull_over (λ i. glued_between p row (viewed side.row) (from + i) (get_or list i (pos 0)) n) (length list) in
@@ -131,61 +130,61 @@ module _ (asked : Question) (f : Body) (place : ℕ) (cells : Box) (values : Lis
 pub many_last : (asked : Question) (a : Body) (place : ℕ) (cells : Box) (values : List ℤ) (row : AnyRow) (n from to : ℕ) (s : Span) →
     IsRowOf a (cells_before place cells) values row → IsTrue (is_automaton a) → IsServed (form_sides (form_of row)) a.mark n asked → n ≡ length cells →
     from ≤ to → to ≤ length values → s ≡ finish_along (lanes_of row) a (columns row) from (to - from) n →
-    FindsAlike asked s (span_of_all (map (last_at a place cells) (places_of from to values)))
+    FindsAlike asked s (hull_of_spans (map (last_at a place cells) (places_of from to values)))
 many_last asked a place cells values row n from to s is rules served is_n order inside is_s =
     let g : ℤ → Span = last_at a place cells in
     let there : ℕ → Span = λ i. finish_hull (lanes_of row) a (columns row) (from + i) n in
-    subst (λ z. FindsAlike asked z (span_of_all (map g (places_of from to values)))) (sym is_s)
+    subst (λ z. FindsAlike asked z (hull_of_spans (map g (places_of from to values)))) (sym is_s)
     (over_found asked there g (drop from values) (to - from) (few_left values from to order inside)
     (λ i lt.
     let v = get_or values (from + i) (pos 0) in let before : from + i < length values = omega (arith, lt, inside, order) in
     let hs = hulls_at a (cells_before place cells) v in
     subst (λ z. FindsAlike asked (there i) (g z)) (sym (at_place values from i))
-    (subst (FindsAlike asked (there i)) (last_one a place cells v hs n (span_of_all (finishes a hs n (length a.states))) refl is_n refl)
+    (subst (FindsAlike asked (there i)) (last_one a place cells v hs n (hull_of_spans (finishes a hs n (length a.states))) refl is_n refl)
     (finish_alike asked a (cells_before place cells) values (from + i) v row n is (slice_get-get_or values (from + i) (pos 0) before) rules served))))
 
 -- the spans of the values at places are taken in
 
-front_within : (xs ys : List Span) → IsWithin (span_of_all xs) (span_of_all (xs ++ ys))
-front_within xs ys e h = subst (λ s. Holds s e) (sym (all_append xs ys)) (hull_left (span_of_all xs) (span_of_all ys) e h)
+front_within : (xs ys : List Span) → IsWithin (hull_of_spans xs) (hull_of_spans (xs ++ ys))
+front_within xs ys e h = subst (λ s. Holds s e) (sym (all_append xs ys)) (hull_left (hull_of_spans xs) (hull_of_spans ys) e h)
 
 module _ (known : SoFar) (asked : Question) (f : ℤ → Span) (values : List ℤ) (whole : Span) (from to : ℕ) (order : from ≤ to)
-    (same : known.asked ≡ asked) (all : whole ≡ span_of_all (map f values))
-    (so_far : FindsAlike asked known.span (span_of_all (map f (take from values)))) where
-  both_found : FindsAlike asked (span_hull known.span (span_of_all (map f (places_of from to values)))) (span_of_all (map f (take to values)))
+    (same : known.asked ≡ asked) (all : whole ≡ hull_of_spans (map f values))
+    (so_far : FindsAlike asked known.span (hull_of_spans (map f (take from values)))) where
+  both_found : FindsAlike asked (span_hull known.span (hull_of_spans (map f (places_of from to values)))) (hull_of_spans (map f (take to values)))
   both_found =
-      let part = span_of_all (map f (places_of from to values)) in let front = span_of_all (map f (take from values)) in
+      let part = hull_of_spans (map f (places_of from to values)) in let front = hull_of_spans (map f (take from values)) in
       let e : from + (to - from) ≡ to = omega (arith, order) in
       subst (FindsAlike asked (span_hull known.span part))
       (sym (all_append (map f (take from values)) (map f (places_of from to values)))
-      ∙ ap span_of_all (sym (map-append f (take from values) (places_of from to values)))
-      ∙ ap (λ l. span_of_all (map f l)) (sym (take-add from (to - from) values) ∙ ap (λ k. take k values) e))
+      ∙ ap hull_of_spans (sym (map-append f (take from values) (places_of from to values)))
+      ∙ ap (λ l. hull_of_spans (map f l)) (sym (take-add from (to - from) values) ∙ ap (λ k. take k values) e))
       (finds_with asked known.span front part so_far)
 
-  pub places_more : (more : SoFar) → WithParts known (span_of_all (map f (places_of from to values)) ∷ []) (Some more) →
-      (more.asked ≡ asked) × FindsAlike asked more.span (span_of_all (map f (take to values))) × IsSoFar more
+  pub places_more : (more : SoFar) → WithParts known (hull_of_spans (map f (places_of from to values)) ∷ []) (Some more) →
+      (more.asked ≡ asked) × FindsAlike asked more.span (hull_of_spans (map f (take to values))) × IsSoFar more
   places_more more h =
-      let both = span_hull known.span (span_of_all (map f (places_of from to values))) in (
+      let both = span_hull known.span (hull_of_spans (map f (places_of from to values))) in (
         h.0 ∙ same,
-        finds_on asked more.span both (span_of_all (map f (take to values))) (subst (λ a. FindsAlike a more.span both) same h.1) both_found,
+        finds_on asked more.span both (hull_of_spans (map f (take to values))) (subst (λ a. FindsAlike a more.span both) same h.1) both_found,
         h.2,
       )
 
-  pub places_stop : WithParts known (span_of_all (map f (places_of from to values)) ∷ []) None → Excludes asked whole → ⊥
+  pub places_stop : WithParts known (hull_of_spans (map f (places_of from to values)) ∷ []) None → Excludes asked whole → ⊥
   places_stop stop none =
-      let both = span_hull known.span (span_of_all (map f (places_of from to values))) in
+      let both = span_hull known.span (hull_of_spans (map f (places_of from to values))) in
       let front = map f (take to values) in let rest = map f (drop to values) in
       let split : map f values ≡ front ++ rest =
       ap (map f) (sym (take-append-drop to values)) ∙ map-append f (take to values) (drop to values) in
-      let none_here : Excludes asked (span_of_all (front ++ rest)) =
-      subst (λ l. Excludes asked (span_of_all l)) split (subst (Excludes asked) all none) in
+      let none_here : Excludes asked (hull_of_spans (front ++ rest)) =
+      subst (λ l. Excludes asked (hull_of_spans l)) split (subst (Excludes asked) all none) in
       stop (subst (λ a. Excludes a both) (sym same)
-      (excludes_found asked (span_of_all front) both (finds_back asked both (span_of_all front) both_found)
-      (part_excludes asked (span_of_all front) (span_of_all (front ++ rest)) (front_within front rest) none_here)))
+      (excludes_found asked (hull_of_spans front) both (finds_back asked both (hull_of_spans front) both_found)
+      (part_excludes asked (hull_of_spans front) (hull_of_spans (front ++ rest)) (front_within front rest) none_here)))
 
 -- one place alone
 pub one_place : (f : ℤ → Span) (values : List ℤ) (from to : ℕ) (v : ℤ) → to - from ≡ 1 → from < length values → slice_get values from ≡ Some v →
-    span_hull (f v) none_span ≡ f v → span_of_all (map f (places_of from to values)) ≡ f v
+    span_hull (f v) none_span ≡ f v → hull_of_spans (map f (places_of from to values)) ≡ f v
 one_place f values from to v one lt is form =
-    ap (λ k. span_of_all (map f (take k (drop from values)))) one ∙ ap (λ l. span_of_all (map f (take 1 l))) (left_is values from v lt is)
+    ap (λ k. hull_of_spans (map f (take k (drop from values)))) one ∙ ap (λ l. hull_of_spans (map f (take 1 l))) (left_is values from v lt is)
     ∙ hull_comm none_span (f v) ∙ form

@@ -26,14 +26,13 @@ use Rattle.ts_sweep.specs.Sides.{Sides, BothEnds, has_wide, seen_hull, sides}
 use Rattle.ts_meet.specs.declared.joints.Joints.{Joints}
 use Rattle.ts_meet.specs.Asked.{IsAnswer}
 use Rattle.ts_meet.specs.Joints.{AreJoints}
-use Rattle.ts_meet.specs.Meets.{HasPlace, finish_hull, finish_seen, finishes_in, glued_hull, glued_seen, spans_between}
+use Rattle.ts_meet.specs.Meets.{HasPlace, finish_hull, finish_seen, finishes_in, glued_hull, glued_seen, hull_of_spans, spans_between}
 use Rattle.ts_meet.specs.Settled.{HavePlaces}
 use Rattle.ts_meet.proofs.CallerLemmas.{row_place, row_places, spans_are, finishes_are, with_hull}
 use Rattle.ts_meet.proofs.SeenGlue.{finished_span_seen, glue_span_seen}
 use Rattle.ts_bound.specs.Blocks.{finishes, glued_all, glued_with, back_hulls, last_at, split_at, standing_of}
 use Rattle.ts_bound.specs.HullTables.{cells_after, cells_before, hulls_at, row_of}
 use Rattle.ts_bound.specs.PackedRows.{IsPackedRow}
-use Rattle.ts_bound.specs.TermSpans.{span_of_all}
 use Rattle.ts_bound.proofs.SeenRows.{seen_at}
 use Rattle.ts_bound.proofs.SpanEnds.{IsPairOf, last_one, split_one}
 use Rattle.ts_bound.specs.declared.any_row.AnyRow.{AnyRow}
@@ -100,9 +99,9 @@ module _ (asked : Question) where
   each_flat f g [] h = tt
   each_flat f g (q ∷ qs) h = each_append (f q) (g q) (flat_map f qs) (flat_map g qs) (h q) (each_flat f g qs h)
 
-  hull_found : (ss ts us : List Span) → ss ≡ us → EachAlike asked us ts → FindsAlike asked (span_of_all ss) (span_of_all ts)
+  hull_found : (ss ts us : List Span) → ss ≡ us → EachAlike asked us ts → FindsAlike asked (hull_of_spans ss) (hull_of_spans ts)
   hull_found ss ts us e each =
-      subst (λ l. FindsAlike asked (span_of_all l) (span_of_all ts)) (sym e)
+      subst (λ l. FindsAlike asked (hull_of_spans l) (hull_of_spans ts)) (sym e)
       (finds_folded asked us ts none_span none_span (finds_self asked none_span) each)
 
   finish_one : (s : Sides) (b : Body) (q : ℕ) (h : Hull) (n : ℕ) → IsTrue (is_automaton b) → (s ≡ BothEnds) ⊎ (b.wide ≡ false) →
@@ -121,7 +120,7 @@ module _ (asked : Question) where
   -- at the last cell
   finish_found : (m : ℕ) (a : Body) (before : Box) (values : List ℤ) (i : ℕ) (v : ℤ) (row : Columns m) (n : ℕ) → IsPackedRow m a before values row →
       slice_get values i ≡ Some v → IsTrue (is_automaton a) → (sides m ≡ BothEnds) ⊎ (a.wide ≡ false) → IsServed (sides m) a.mark n asked →
-      FindsAlike asked (finish_hull m a row i n) (span_of_all (finishes a (hulls_at a before v) n (length a.states)))
+      FindsAlike asked (finish_hull m a row i n) (hull_of_spans (finishes a (hulls_at a before v) n (length a.states)))
   unfolding finishes
   finish_found m a before values i v row n is e rules alone served =
       let hs = hulls_at a before v in let there : ℕ → Hull = λ q. seen_hull (sides m) (get_or hs q none) in let all = range_with_len 0 (length a.states) in
@@ -134,7 +133,7 @@ module _ (asked : Question) where
   -- the same of a row in any form
   pub finish_alike : (a : Body) (before : Box) (values : List ℤ) (i : ℕ) (v : ℤ) (row : AnyRow) (n : ℕ) → IsRowOf a before values row →
       slice_get values i ≡ Some v → IsTrue (is_automaton a) → IsServed (form_sides (form_of row)) a.mark n asked →
-      FindsAlike asked (finish_hull (lanes_of row) a (columns row) i n) (span_of_all (finishes a (hulls_at a before v) n (length a.states)))
+      FindsAlike asked (finish_hull (lanes_of row) a (columns row) i n) (hull_of_spans (finishes a (hulls_at a before v) n (length a.states)))
   finish_alike a before values i v row n is e rules served =
       finish_found (lanes_of row) a before values i v (columns row) n is.packed e rules
       (subst (λ m. (sides m ≡ BothEnds) ⊎ (a.wide ≡ false)) (lanes_are row) (form_alone a.wide (form_of row) (width_of_form row a is.width)))
@@ -144,7 +143,7 @@ module _ (asked : Question) where
       ((q : ℕ) → q < l → hull_in m left q i ≡ seen_hull (sides m) (get_or ls q none)) →
       ((r : ℕ) → r < k → hull_in m right r i ≡ seen_hull (sides m) (get_or rs r none)) →
       (sides m ≡ BothEnds) ⊎ (is_wide p ≡ false) → IsServed (sides m) p.forward.mark cells asked →
-      FindsAlike asked (span_of_all (spans_between m p left right i x cells k l)) (span_of_all (glued_all (Some p) ls rs x cells k l))
+      FindsAlike asked (hull_of_spans (spans_between m p left right i x cells k l)) (hull_of_spans (glued_all (Some p) ls rs x cells k l))
   unfolding glued_all glued_with
   glued_all_found m p ls rs left right i x cells k l h j alone served =
       let s = sides m in let hl : ℕ → Hull = λ q. seen_hull s (get_or ls q none) in let hr : ℕ → Hull = λ r. seen_hull s (get_or rs r none) in
@@ -161,13 +160,13 @@ module _ (asked : Question) where
 module _ (asked : Question) (f : Body) (before behind : Box) (values : List ℤ) (i : ℕ) (v : ℤ) (e : slice_get values i ≡ Some v) (p : Pair) (n : ℕ)
     (is : p.forward ≡ f) (width : p.forward.wide ≡ is_wide p) where
   abbrev GluedSpan : Span
-  GluedSpan = span_of_all (glued_all (Some p) (hulls_at f before v) (hulls_at p.reverse behind v) v n (length p.reverse.states) (length f.states))
+  GluedSpan = hull_of_spans (glued_all (Some p) (hulls_at f before v) (hulls_at p.reverse behind v) v n (length p.reverse.states) (length f.states))
 
   glued_in : (m : ℕ) (left right : Columns m) → IsPackedRow m f before values left → IsPackedRow m p.reverse behind values right →
       (sides m ≡ BothEnds) ⊎ (f.wide ≡ false) → IsServed (sides m) f.mark n asked → FindsAlike asked (glued_hull m p left right i v n) GluedSpan
   glued_in m left right ahead back alone served =
       let ls = hulls_at f before v in let rs = hulls_at p.reverse behind v in
-      subst (λ (a : Body). FindsAlike asked (span_of_all (spans_between m p left right i v n (length p.reverse.states) (length a.states))) GluedSpan) (sym is)
+      subst (λ (a : Body). FindsAlike asked (hull_of_spans (spans_between m p left right i v n (length p.reverse.states) (length a.states))) GluedSpan) (sym is)
       (glued_all_found asked m p ls rs left right i v n (length p.reverse.states) (length f.states)
       (λ q lt. hull_there m f before values i q v left ahead e lt) (λ r lt. hull_there m p.reverse behind values i r v right back e lt)
       (⊎_elim (λ both. inl both) (λ narrow. inr (sym width ∙ ap (λ (a : Body). a.wide) is ∙ narrow)) alone)
@@ -242,7 +241,7 @@ module _ (asked : Question) (f : Body) (place : ℕ) (cells : Box) (values : Lis
       FindsAlike asked (glued_between p row (viewed side.row) i v n) (split_at f (Some p) place cells v)
   split_found p is width h =
       let ls = hulls_at f (cells_before place cells) v in let rs = back_hulls (Some p) (cells_after place cells) v in
-      let m = length p.reverse.states in let all = span_of_all (glued_all (Some p) ls rs v n m (length f.states)) in
+      let m = length p.reverse.states in let all = hull_of_spans (glued_all (Some p) ls rs v n m (length f.states)) in
       subst (FindsAlike asked (glued_between p row (viewed side.row) i v n))
       (split_one f (Some p) place cells v v ls rs n m all refl refl refl is_n refl refl)
       (glued_by asked f (cells_before place cells) (cells_after place cells) values i v e p n is width row (viewed side.row) same ahead h.1 served)
@@ -283,7 +282,7 @@ last_found s o a place cells values i v row n part is e rules served is_n is_par
     let hull = finish_hull (lanes_of row) a (columns row) i n in let hs = hulls_at a (cells_before place cells) v in
     part_found s part (last_at a place cells v) o
     (finds_on s.asked part hull (last_at a place cells v) (finds_same s.asked part hull is_part)
-    (subst (FindsAlike s.asked hull) (last_one a place cells v hs n (span_of_all (finishes a hs n (length a.states))) refl is_n refl)
+    (subst (FindsAlike s.asked hull) (last_one a place cells v hs n (hull_of_spans (finishes a hs n (length a.states))) refl is_n refl)
     (finish_alike s.asked a (cells_before place cells) values i v row n is e rules served)))
     h
 

@@ -12,8 +12,9 @@ use Rattle.ts_base.specs.Spans.{Holds, none_span, span_hull}
 use Rattle.ts_base.proofs.SpanLaws.{hull_left, hull_right, hull_least, none_empty}
 use Rattle.ts_base.specs.Windows.{looked_at}
 use Rattle.ts_bound.specs.Looks.{is_looked, place_in}
-use Rattle.ts_bound.specs.TermSpans.{Automata, inner_span, inner_value_span, span_of_all, spans_at, term_span, value_span}
+use Rattle.ts_bound.specs.TermSpans.{Automata, inner_span, inner_value_span, spans_at, term_span, value_span}
 use Rattle.ts_hull.proofs.HullLaws.{IsCanonical, hull_canonical}
+use Rattle.ts_meet.specs.Meets.{hull_of_spans}
 use Rattle.ts_model.specs.declared.model.Require.{Require}
 use Rattle.ts_filter.specs.declared.question.Question.{Question}
 use Rattle.ts_filter.specs.declared.question.Question.TheVariants.{Compares, MeetsEach, Counts, Ranks}
@@ -164,26 +165,26 @@ value_canonical m k b v = by_test (is_looked m.window k)
 -- the parts are the spans of the values of a cell, and their hull is the whole
 
 module _ (known : SoFar) (asked : Question) (f : ℤ → Span) (values : List ℤ) (whole : Span) (i : ℕ)
-    (same : known.asked ≡ asked) (all : whole ≡ span_of_all (map f values))
-    (so_far : FindsAlike asked known.span (span_of_all (map f (take i values)))) where
+    (same : known.asked ≡ asked) (all : whole ≡ hull_of_spans (map f values))
+    (so_far : FindsAlike asked known.span (hull_of_spans (map f (take i values)))) where
   -- with the span of one more value
   both_found : (v w : ℤ) → i < length values → slice_get values i ≡ Some v → w ≡ v →
-      FindsAlike asked (span_hull known.span (f w)) (span_of_all (map f (take (i + 1) values)))
+      FindsAlike asked (span_hull known.span (f w)) (hull_of_spans (map f (take (i + 1) values)))
   both_found v w lt e is =
-      let front = span_of_all (map f (take i values)) in
+      let front = hull_of_spans (map f (take i values)) in
       subst (FindsAlike asked (span_hull known.span (f w))) (span_more f values i v front (f w) (span_hull front (f w)) lt e (ap f is) refl refl)
       (finds_with asked known.span front (f w) so_far)
 
   pub values_done : IsSoFar known → length values ≤ i → IsWholeSpan asked whole (Some known)
   values_done h done =
-      let found = subst (FindsAlike asked known.span) (ap (λ l. span_of_all (map f l)) (take_all i values done) ∙ sym all) so_far in (
+      let found = subst (FindsAlike asked known.span) (ap (λ l. hull_of_spans (map f l)) (take_all i values done) ∙ sym all) so_far in (
         found,
         excludes_found asked known.span whole found (subst (λ a. Excludes a known.span) same h.excluded),
       )
 
 -- the hull of no values
 pub none_begun : (asked : Question) (f : ℤ → Span) (values : List ℤ) (span : Span) → span ≡ none_span →
-    FindsAlike asked span (span_of_all (map f (take 0 values)))
+    FindsAlike asked span (hull_of_spans (map f (take 0 values)))
 none_begun asked f values span e = finds_same asked span none_span e
 
 -- the whole span

@@ -5,10 +5,11 @@ use Rattle.ts_base.specs.Windows.{looked_at}
 use Rattle.ts_bound.specs.HullTables.{cells_before, cells_after}
 use Rattle.ts_bound.specs.Laws.{AreAutomata}
 use Rattle.ts_bound.specs.Looks.{count_looked, first_looked, last_looked, place_in}
-use Rattle.ts_bound.specs.TermSpans.{Automata, LooksIn, span_of_all, value_span}
+use Rattle.ts_bound.specs.TermSpans.{Automata, LooksIn, value_span}
 use Rattle.ts_glue.specs.Pairs.{Pair}
 use Rattle.ts_meet.specs.Joints.{AreJoints}
 use Rattle.ts_meet.specs.Settled.{Between}
+use Rattle.ts_meet.specs.Meets.{hull_of_spans}
 use Rattle.ts_sweep.specs.Sides.{Sides}
 use Rattle.ts_bound.specs.declared.any_row.AnyRow.{AnyRow}
 use Rattle.ts_bound.specs.AnyRows.{IsRowOf, form_of, viewed}
@@ -87,4 +88,4 @@ places_of from to values = take (to - from) (drop from values)
 
 -- each question that these ends serve finds the same in a span as in the hull of the spans f of these values
 abbrev pub FindsAll : (Question → Type 0) → Span → (ℤ → Span) → List ℤ → Type 0
-FindsAll Serves s f values = (asked : Question) → Serves asked → FindsAlike asked s (span_of_all (map f values))
+FindsAll Serves s f values = (asked : Question) → Serves asked → FindsAlike asked s (hull_of_spans (map f values))

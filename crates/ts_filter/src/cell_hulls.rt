@@ -22,7 +22,7 @@ ghost use Rattle.ts_base.specs.Windows.{looked_at};
 ghost use Rattle.ts_bound.specs.Blocks.{last_at, split_at};
 ghost use Rattle.ts_bound.specs.Laws.{AreAutomata};
 ghost use Rattle.ts_bound.specs.Looks.{count_looked, place_in};
-ghost use Rattle.ts_bound.specs.TermSpans.{automata_of, span_of_all, term_span, value_span};
+ghost use Rattle.ts_bound.specs.TermSpans.{automata_of, term_span, value_span};
 ghost use Rattle.ts_bound.specs.AnyRows.{form_of, form_sides, viewed};
 ghost use Rattle.ts_filter.specs.Question.{AsksEach, Excludes};
 ghost use Rattle.ts_filter.specs.Ends.{best_end};
@@ -34,6 +34,7 @@ ghost use Rattle.ts_filter.specs.SoFar.{IsSoFar, IsWholeSpan, WithParts};
 ghost use Rattle.ts_filter.specs.TermDrops.{IsFirstRefuting};
 ghost use Rattle.ts_glue.specs.Machines.{forward_of, pair_of, window_of};
 ghost use Rattle.ts_meet.specs.Settled.{Between};
+ghost use Rattle.ts_meet.specs.Meets.{hull_of_spans};
 
 use crate::excluded::best_end;
 use crate::many_values::{AT_ONCE, last_places, split_places};
@@ -183,7 +184,7 @@ impl<'a> CellHulls<'a> {
         requires order { from < to }
         requires few { to ≤ from + 64 }
         requires inside { to ≤ length (values_at self.now.cell self.now.cells) }
-        ensures { WithParts so_far.entry (span_of_all (map
+        ensures { WithParts so_far.entry (hull_of_spans (map
             (value_span self.now.machine self.now.cell self.now.cells)
             (places_of from to (values_at self.now.cell self.now.cells))) ∷ []) result }
     {
@@ -200,7 +201,7 @@ impl<'a> CellHulls<'a> {
         requires order { from ≤ to }
         requires few { to ≤ from + 64 }
         requires inside { to ≤ length (values_at self.now.cell self.now.cells) }
-        ensures { WithParts so_far.entry (span_of_all (map
+        ensures { WithParts so_far.entry (hull_of_spans (map
             (value_span self.now.machine self.now.cell self.now.cells)
             (places_of from to (values_at self.now.cell self.now.cells))) ∷ []) result }
     {

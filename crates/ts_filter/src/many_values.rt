@@ -5,13 +5,14 @@ ghost use Rattle.ts_base.specs.Windows.{looked_at};
 ghost use Rattle.ts_bound.specs.Blocks.{last_at, split_at};
 ghost use Rattle.ts_bound.specs.Laws.{AreAutomata};
 ghost use Rattle.ts_bound.specs.Looks.{count_looked, place_in};
-ghost use Rattle.ts_bound.specs.TermSpans.{automata_of, span_of_all};
+ghost use Rattle.ts_bound.specs.TermSpans.{automata_of};
 ghost use Rattle.ts_bound.specs.AnyRows.{form_of, form_sides, viewed};
 ghost use Rattle.ts_filter.specs.Alike.{IsServed};
 ghost use Rattle.ts_filter.specs.Boxes.{values_at};
 ghost use Rattle.ts_filter.specs.CellHulls.{FindsAll, HasHulls, IsAheadRow, IsBackSide, places_of};
 ghost use Rattle.ts_filter.specs.SoFar.{WithParts};
 ghost use Rattle.ts_glue.specs.Machines.{forward_of, pair_of, window_of};
+ghost use Rattle.ts_meet.specs.Meets.{hull_of_spans};
 
 use crate::cell_hulls::BackSide;
 use crate::so_far::SoFar;
@@ -67,7 +68,7 @@ pub(crate) fn split_places<'a>(
     requires order { from ≤ to }
     requires few { to ≤ from + 64 }
     requires inside { to ≤ length (values_at k cells.now.present) }
-    ensures { WithParts so_far.entry (span_of_all (map (split_at (forward_of m.now) (pair_of m.now)
+    ensures { WithParts so_far.entry (hull_of_spans (map (split_at (forward_of m.now) (pair_of m.now)
         (place_in (window_of m.now) k) (looked_at (window_of m.now) cells.now.present))
         (places_of from to (values_at k cells.now.present))) ∷ []) result }
 {

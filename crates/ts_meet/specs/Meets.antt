@@ -49,7 +49,7 @@ spans_between n p left right i x cells m k =
 unfoldable pub finishes_in : (n : ℕ) → Body → List (List (PackedHull n)) → ℕ → ℕ → ℕ → List Span
 finishes_in n b row i cells k = map (λ q. finish_seen (sides n) b (standing_in n row q i) cells) (range_with_len 0 k)
 
--- the hull of spans
+-- the hull of spans, in their order; none where there is none
 abbrev pub hull_of_spans : List Span → Span
 hull_of_spans ss = fold span_hull none_span ss
 

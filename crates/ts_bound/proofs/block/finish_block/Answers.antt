@@ -1,6 +1,6 @@
 use Rattle.std.proofs.Common.{◌≡◌, refl, ap, ◌∙◌, length, arith}
+use Rattle.ts_meet.specs.Meets.{hull_of_spans}
 use Rattle.ts_bound.specs.Blocks.{finishes}
-use Rattle.ts_bound.specs.TermSpans.{span_of_all}
 use Rattle.ts_bound.proofs.FitLaws.{fits_at}
 use Rattle.ts_bound.proofs.SpanRuns.{finish_begun, finish_more}
 use Rattle.ts_bound.proofs.block.finish_block.Goals as goal
@@ -21,4 +21,4 @@ loop-q-preserved c =
 pub returns : goal.returns
 returns c =
     let e : c.loop-q.q ≡ length c.args.a.now.states = omega (arith, c.loop-q-test.false, c.loop-q.auto.q-end, c.states-states.ensures.count) in
-    c.loop-q.invariant ∙ ap (λ m. span_of_all (finishes c.args.a.now c.args.hulls.now c.args.n m)) e
+    c.loop-q.invariant ∙ ap (λ m. hull_of_spans (finishes c.args.a.now c.args.hulls.now c.args.n m)) e

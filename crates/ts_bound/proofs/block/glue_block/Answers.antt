@@ -1,8 +1,8 @@
 use Rattle.std.proofs.Common.{◌≡◌, Some, refl, sym, ap, ◌∙◌, subst, w64, to_z, of_z, arith}
 use Rattle.std.proofs.lemmas.Int.{to_z-of_z}
 use Rattle.ts_base.specs.Limits.{IsCellValue}
+use Rattle.ts_meet.specs.Meets.{hull_of_spans}
 use Rattle.ts_bound.specs.Blocks.{glued_all}
-use Rattle.ts_bound.specs.TermSpans.{span_of_all}
 use Rattle.ts_bound.proofs.FitLaws.{fits_at}
 use Rattle.ts_bound.proofs.SpanRuns.{all_begun, all_more}
 use Rattle.ts_bound.proofs.block.glue_block.Goals as goal
@@ -27,6 +27,6 @@ returns c p h =
     let right = c.args.joints.now.right_states in
     let e : c.loop-q.q ≡ c.args.joints.now.left_states = omega (arith, c.loop-q-test.false, c.loop-q.auto.q-end) in
     c.loop-q.invariant p h
-    ∙ ap (λ k. span_of_all (glued_all (Some p) c.args.left.now c.args.right.now (to_z w64 (of_z w64 c.args.cell)) c.args.n right k)) e
-    ∙ ap (λ x. span_of_all (glued_all (Some p) c.args.left.now c.args.right.now x c.args.n right c.args.joints.now.left_states))
+    ∙ ap (λ k. hull_of_spans (glued_all (Some p) c.args.left.now c.args.right.now (to_z w64 (of_z w64 c.args.cell)) c.args.n right k)) e
+    ∙ ap (λ x. hull_of_spans (glued_all (Some p) c.args.left.now c.args.right.now x c.args.n right c.args.joints.now.left_states))
     (to_z-of_z w64 c.args.cell c.ranges.cell)

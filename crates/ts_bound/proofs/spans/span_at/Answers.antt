@@ -4,10 +4,11 @@ use Rattle.ts_base.specs.Limits.{IsCellValue}
 use Rattle.ts_base.specs.Windows.{looked_at}
 use Rattle.ts_domain.specs.Boxes.{values_at}
 use Rattle.ts_glue.specs.Machines.{forward_of, pair_of, window_of}
+use Rattle.ts_meet.specs.Meets.{hull_of_spans}
 use Rattle.ts_bound.specs.Blocks.{AreBackRows, finishes}
 use Rattle.ts_bound.specs.HullTables.{cells_before, cells_after}
 use Rattle.ts_bound.specs.Looks.{count_looked, place_in}
-use Rattle.ts_bound.specs.TermSpans.{automata_of, span_of_all}
+use Rattle.ts_bound.specs.TermSpans.{automata_of}
 use Rattle.ts_bound.proofs.FitLaws.{after_within, back_fit, before_within, value_hulls_fit}
 use Rattle.ts_bound.proofs.SpanRuns.{row_there, back_row_there, count_is, ahead_fits, ahead_block, back_fits, back_block, back_length, length-hulls_at, split_some}
 use Rattle.ts_bound.proofs.SpanEnds.{back_count, front_count, glued_there, pair_is, split_one, split_value_ends, last_one, last_value_ends, value_within, within_of}
@@ -172,5 +173,5 @@ returns-in-None c =
     let at = place_in w c.args.k in let inner = looked_at w cells in
     let last : at ≡ length inner = search rules in
     last_one b at inner c.args.v c.block-left.result.now c.looked_count-n.result c.finish_block.result left n
-    (c.finish_block.ensures ∙ ap (λ b. span_of_all (finishes b c.block-left.result.now c.looked_count-n.result (length b.states))) c.forward-a.ensures)
+    (c.finish_block.ensures ∙ ap (λ b. hull_of_spans (finishes b c.block-left.result.now c.looked_count-n.result (length b.states))) c.forward-a.ensures)
     ∙ last_value_ends (automata_of m) c.machine_is_whole.ensures at inner c.args.v last

@@ -6,10 +6,11 @@ use Rattle.ts_base.specs.Spans.{span_hull}
 use Rattle.ts_base.specs.Windows.{looked_at}
 use Rattle.ts_bound.specs.Blocks.{split_at}
 use Rattle.ts_bound.specs.Looks.{place_in}
-use Rattle.ts_bound.specs.TermSpans.{automata_of, span_of_all}
+use Rattle.ts_bound.specs.TermSpans.{automata_of}
 use Rattle.ts_bound.proofs.SpanEnds.{pair_is}
 use Rattle.ts_glue.specs.Machines.{forward_of, pair_of, window_of}
 use Rattle.ts_meet.specs.Asked.{IsAnswer}
+use Rattle.ts_meet.specs.Meets.{hull_of_spans}
 use Rattle.ts_bound.specs.AnyRows.{form_of, form_sides, viewed}
 use Rattle.ts_bound.proofs.CellsRead.{counted, counted_as}
 use Rattle.ts_filter.specs.Alike.{IsServed}
@@ -63,7 +64,7 @@ returns-in-Some c =
     let found = many_split known.asked (forward_of m) place cells values row c.args.back.now c.requires.form c.requires.row n count served from to order
     inside list long listed (λ s. IsAnswer (Excludes known.asked) (span_hull known.span s) (Some c.in-Some.span)) (pair_of m) (pair_is m) (as_wide m)
     c.requires.back c.in-Some.ensures in
-    let spans = span_of_all (map (split_at (forward_of m) (pair_of m) place cells) (places_of from to values)) in
+    let spans = hull_of_spans (map (split_at (forward_of m) (pair_of m) place cells) (places_of from to values)) in
     some_by known found.0 spans c.in-Some.span found.1 found.2
 
 pub returns-in-None : goal.returns-in-None
@@ -83,5 +84,5 @@ returns-in-None c =
     let found = many_split known.asked (forward_of m) place cells values row c.args.back.now c.requires.form c.requires.row n count served from to order
     inside list long listed (λ s. IsAnswer (Excludes known.asked) (span_hull known.span s) None) (pair_of m) (pair_is m) (as_wide m)
     c.requires.back c.in-None.ensures in
-    let spans = span_of_all (map (split_at (forward_of m) (pair_of m) place cells) (places_of from to values)) in
+    let spans = hull_of_spans (map (split_at (forward_of m) (pair_of m) place cells) (places_of from to values)) in
     none_by known found.0 spans found.1 found.2

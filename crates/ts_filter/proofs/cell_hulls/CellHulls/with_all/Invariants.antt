@@ -1,6 +1,7 @@
 use Rattle.std.proofs.Common.{map, take}
 use Rattle.std.specs.Prelude.{◌≡◌, ◌≤◌, ◌-◌}
-use Rattle.ts_bound.specs.TermSpans.{span_of_all, value_span}
+use Rattle.ts_meet.specs.Meets.{hull_of_spans}
+use Rattle.ts_bound.specs.TermSpans.{value_span}
 use Rattle.ts_filter.specs.Alike.{FindsAlike}
 use Rattle.ts_filter.specs.Boxes.{values_at}
 use Rattle.ts_filter.specs.SoFar.{IsSoFar}
@@ -10,7 +11,7 @@ abbrev pub invariant-loop-at : goal.invariant-loop-at
 invariant-loop-at l =
     (l.known.asked ≡ l.fn.asked)
     × FindsAlike l.fn.asked l.known.span
-    (span_of_all (map (value_span l.self.machine l.self.cell l.self.cells) (take l.at (values_at l.self.cell l.self.cells))))
+    (hull_of_spans (map (value_span l.self.machine l.self.cell l.self.cells) (take l.at (values_at l.self.cell l.self.cells))))
     × IsSoFar l.known
     × (l.at ≤ l.count)
 
