@@ -3,11 +3,12 @@
 
 ghost use Rattle.std.specs.List.{All};
 ghost use Rattle.std.specs.Prelude.{◌≡◌, ◌+◌, ◌≤◌, ℤ, pos, get_or, List, [], ◌∷◌, IfOk, IsTrue, length};
+ghost use Rattle.ts_automaton.specs.AutomatonRun.{AreCellValues};
 ghost use Rattle.ts_base.specs.Limits.{IsCellValue};
 ghost use Rattle.ts_base.specs.Spans.{none_span, span_hull};
 ghost use Rattle.ts_bound.specs.AnyRows.{IsFormOf, IsRowOf, columns, form_of, glued_between, lanes_of, row_part, row_without, viewed};
 ghost use Rattle.ts_glue.specs.Pairs.{Pair};
-ghost use Rattle.ts_meet.specs.Along.{AreCellValues, finish_along, hull_over};
+ghost use Rattle.ts_meet.specs.Along.{finish_along, hull_over};
 ghost use Rattle.ts_meet.specs.Asked.{IsAnswer};
 ghost use Rattle.ts_meet.specs.Joints.{AreJoints};
 ghost use Rattle.ts_meet.specs.Meets.{HasPlace, finish_hull};

@@ -1,5 +1,5 @@
 -- The spans of a cell from its rows: the hulls of one value, and the hull of the spans of all values.
-use Rattle.std.proofs.Common.{◌≡◌, ℕ, zero, suc, ◌+◌, ◌*◌, ◌-◌, ◌<◌, ◌≤◌, ℤ, List, [], ◌∷◌, ◌++◌, length, map, take, drop, slice_get, Some, refl, sym, ap, ◌∙◌, subst, arith}
+use Rattle.std.proofs.Common.{◌≡◌, ℕ, zero, suc, ◌+◌, ◌*◌, ◌-◌, ◌<◌, ◌≤◌, ℤ, pos, List, [], ◌∷◌, ◌++◌, get_or, length, map, take, drop, slice_get, Some, refl, sym, ap, ◌∙◌, subst, arith}
 use Rattle.std.specs.Prelude.{flat_map, slice_range}
 use Rattle.std.specs.List.{AllByRecursion}
 use Rattle.std.proofs.lemmas.List.{take_at, drop_at, drop-drop, take_more, drop_more, map-append}
@@ -9,6 +9,7 @@ use Rattle.ts_base.specs.declared.span.Span.{Span}
 use Rattle.ts_base.specs.Limits.{IsCellValue}
 use Rattle.ts_base.specs.Spans.{none_span, span_hull}
 use Rattle.ts_automaton.specs.declared.regs.Hull.{Hull}
+use Rattle.ts_automaton.specs.AutomatonRun.{AreCellValues}
 use Rattle.ts_automaton.specs.Body.{Body}
 use Rattle.ts_domain.specs.BoxSeries.{IsBox}
 use Rattle.ts_meet.specs.Meets.{hull_of_spans}
@@ -45,6 +46,10 @@ value_fits (x ∷ vs) (suc i) v h e = value_fits vs i v h.1 e
 
 pub cell_value : (b : Box) (k i : ℕ) (v : ℤ) → IsBox b → 1 ≤ k → k ≤ length b → slice_get (values_at k b) i ≡ Some v → IsCellValue v
 cell_value b k i v box some to e = value_fits (values_at k b) i v (within_of b (k - 1) (values_at k b) box (omega (arith, some, to)) refl) e
+
+pub cells_by_place : (values : List ℤ) → ((i : ℕ) → i < length values → IsCellValue (get_or values i (pos 0))) → AreCellValues values
+cells_by_place [] h = tt
+cells_by_place (x ∷ values) h = (h 0 (omega arith), cells_by_place values (λ i lt. h (suc i) (omega (arith, lt))))
 
 -- the hull of the spans of the values so far
 

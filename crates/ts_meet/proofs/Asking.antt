@@ -1,12 +1,13 @@
 -- What a pair of states tells of the whole span at a value: the pair's span lies in it.
-use Rattle.std.proofs.Common.{◌≡◌, ◌↔◌, ◌⊎◌, Bool, true, false, ℕ, zero, suc, ◌+◌, ◌-◌, ◌<◌, ◌≤◌, ◌≤ℤ◌, ℤ, List, [], ◌∷◌, get_or, length, inl, inr, sym, ap, subst, ◌∙◌, arith}
+use Rattle.std.proofs.Common.{◌≡◌, ◌↔◌, ◌⊎◌, Bool, true, false, ℕ, zero, suc, ◌+◌, ◌-◌, ◌<◌, ◌≤◌, ◌≤ℤ◌, ℤ, pos, List, [], ◌∷◌, get_or, length, inl, inr, sym, ap, subst, ◌∙◌, arith}
 use Rattle.std.specs.Prelude.{fold, IfSome, Option, None, Some}
 use Rattle.std.proofs.lemmas.List.{get_or_default}
 use Rattle.ts_base.specs.declared.span.Span.{Span}
+use Rattle.ts_base.specs.Limits.{IsCellValue}
 use Rattle.ts_base.specs.SpanLayer.{IsWithin}
 use Rattle.ts_base.specs.Spans.{none_span, span_hull}
 use Rattle.ts_base.proofs.SpanLaws.{hull_left, hull_right}
-use Rattle.ts_automaton.specs.AutomatonRun.{Standing}
+use Rattle.ts_automaton.specs.AutomatonRun.{AreCellValues, Standing}
 use Rattle.ts_glue.specs.Pairs.{Pair}
 use Rattle.ts_row.specs.Rows.{nothing}
 use Rattle.ts_sweep.specs.declared.packed.Ends.{Ends}
@@ -130,3 +131,9 @@ one_more Is a b before last i from to = elim (below_or_not i b) [
 -- the hull that was read at a place
 pub read_there : (n : ℕ) (hulls : List (PackedHull n)) (i : ℕ) (h : PackedHull n) → h ≡ get_or hulls i h → i < length hulls → h ≡ get_or hulls i (nothing n)
 read_there n hulls i h is inside = is ∙ get_or_default hulls i h (nothing n) inside
+
+-- each of many values of cells is one
+pub value_there : (values : List ℤ) (i : ℕ) → AreCellValues values → i < length values → IsCellValue (get_or values i (pos 0))
+value_there [] i h lt = absurd (omega (arith, lt))
+value_there (x ∷ values) zero h lt = h.0
+value_there (x ∷ values) (suc i) h lt = value_there values i h.1 (omega (arith, lt))

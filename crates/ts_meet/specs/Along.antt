@@ -1,8 +1,7 @@
 -- The hull of the spans of many values of a cell.
-use Rattle.std.specs.Prelude.{◌≡◌, ◌<◌, ◌+◌, ℕ, ℤ, pos, List, length, map, fold, get_or}
+use Rattle.std.specs.Prelude.{◌+◌, ℕ, ℤ, pos, List, length, map, fold, get_or}
 use Rattle.std.specs.List.{range_with_len}
 use Rattle.ts_base.specs.declared.span.Span.{Span}
-use Rattle.ts_base.specs.Limits.{IsCellValue}
 use Rattle.ts_base.specs.Spans.{span_hull}
 use Rattle.ts_automaton.specs.Body.{Body}
 use Rattle.ts_glue.specs.Pairs.{Pair}
@@ -14,9 +13,6 @@ use Rattle.ts_meet.specs.Settled.{with_hull_at}
 -- the hull of so many spans, counted from 0
 unfoldable pub hull_over : (ℕ → Span) → ℕ → Span
 hull_over f count = hull_of_spans (map f (range_with_len 0 count))
-
-abbrev pub AreCellValues : List ℤ → Type 0
-AreCellValues xs = (i : ℕ) → i < length xs → IsCellValue (get_or xs i (pos 0))
 
 -- the hull of all glued spans at the places from one on where these values are
 abbrev pub glued_along : (n : ℕ) → Pair → (left right : List (List (PackedHull n))) → ℕ → List ℤ → ℕ → Span

@@ -2,12 +2,13 @@
 //! and then all values are glued in one loop. A question ends at the first pair with which it is settled.
 
 ghost use Rattle.std.specs.Prelude.{◌≡◌, ◌⊎◌, ℕ, ◌+◌, ◌<◌, ◌≤◌, ℤ, true, false, [], get_or, length};
+ghost use Rattle.ts_automaton.specs.AutomatonRun.{AreCellValues};
 ghost use Rattle.ts_base.specs.declared.span.Span.{Span};
 ghost use Rattle.ts_base.specs.Limits.{IsCellValue};
 ghost use Rattle.ts_base.specs.Spans.{span_hull};
 ghost use Rattle.ts_glue.specs.Glue.{glue_of, is_join};
 ghost use Rattle.ts_glue.specs.Pairs.{Pair};
-ghost use Rattle.ts_meet.specs.Along.{AreCellValues, glued_along, hull_over, pair_along, with_along};
+ghost use Rattle.ts_meet.specs.Along.{glued_along, hull_over, pair_along, with_along};
 ghost use Rattle.ts_meet.specs.Asked.{IsAnswer, IsHullUntil};
 ghost use Rattle.ts_meet.specs.Joints.{AreJoints, IsGluing, expression, numbered, numbered_mark};
 ghost use Rattle.ts_meet.specs.Meets.{glued_seen};

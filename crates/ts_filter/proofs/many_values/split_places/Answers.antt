@@ -17,7 +17,7 @@ use Rattle.ts_filter.specs.Alike.{IsServed}
 use Rattle.ts_filter.specs.Boxes.{values_at}
 use Rattle.ts_filter.specs.CellHulls.{places_of, seen_after, seen_before}
 use Rattle.ts_filter.specs.Question.{Excludes}
-use Rattle.ts_filter.proofs.CellLaws.{cell_value}
+use Rattle.ts_filter.proofs.CellLaws.{cell_value, cells_by_place}
 use Rattle.ts_filter.proofs.Looked.{cell_there}
 use Rattle.ts_filter.proofs.ManyLaws.{front_listed, front_long, many_split}
 use Rattle.ts_filter.proofs.MeetLaws.{as_wide, left_places, none_by, right_places, some_by, width_there}
@@ -40,11 +40,11 @@ asked_values-requires c =
       width = width_there f before behind values row c.args.back.now c.requires.row (pair_of m) (pair_is m) (as_wide m) c.requires.back;
       left = left_places f before behind values row c.args.back.now c.requires.row (from + length list) last (pair_of m) (pair_is m) c.requires.back;
       right = right_places f before behind values row c.args.back.now c.requires.row (from + length list) last (pair_of m) c.requires.back;
-      values = λ i lt.
+      values = cells_by_place list (λ i lt.
           let there_too : i < to - from = omega (arith, lt, long) in let at : from + i < length values = omega (arith, there_too, order, inside) in
           subst IsCellValue (sym (listed i there_too))
           (cell_value b k (from + i) (get_or values (from + i) (pos 0)) c.cells.ensures.domains there.0 there.1
-          (slice_get-get_or values (from + i) (pos 0) at));
+          (slice_get-get_or values (from + i) (pos 0) at)));
     }
 
 pub returns-in-Some : goal.returns-in-Some

@@ -13,7 +13,7 @@ use Rattle.ts_meet.specs.Meets.{glued_seen}
 use Rattle.ts_meet.specs.Peaks.{IsTaken}
 use Rattle.ts_meet.specs.Settled.{with_hull, with_hull_at}
 use Rattle.ts_meet.specs.Sides.{StandFor}
-use Rattle.ts_meet.proofs.Asking.{read_there}
+use Rattle.ts_meet.proofs.Asking.{read_there, value_there}
 use Rattle.ts_meet.proofs.Places.{pair_more, pair_none}
 use Rattle.ts_meet.proofs.along.along_values.Goals as goal
 
@@ -31,7 +31,7 @@ with_value-hull-requires g c =
     (sym (read_there n left at _ c.index-left-from.is (let e = given.left.0 in omega (arith, e, place)))) (given.left.1 at place) in
     let there = subst (λ z. IsPacked (lane_count n) (lanes_of n z))
     (sym (read_there n right at _ c.index-right-from.is (let e = given.right.0 in omega (arith, e, place)))) (given.right.1 at place) in
-    let few = given.values i before in let fits : SFits w64 x = search rules in
+    let few = value_there c.args.values.now i given.values before in let fits : SFits w64 x = search rules in
     let is_left = read_there n left at _ c.index-left-from.is (let e = given.left.0 in omega (arith, e, place)) in
     let is_right = read_there n right at _ c.index-right-from.is (let e = given.right.0 in omega (arith, e, place)) in
     let taken = subst (λ z. IsTaken n (g.S.Seam.takes c.args.gluing) z c.index-right-from.result) (sym is_left)
