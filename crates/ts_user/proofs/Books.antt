@@ -17,10 +17,10 @@ use Rattle.ts_user.specs.declared.book.Next.{Next}
 use Rattle.ts_user.specs.declared.book.Next.TheVariants.{Unread, NoWord, Number}
 use Rattle.ts_user.specs.declared.book.Nexts.{Nexts}
 use Rattle.ts_user.specs.declared.book.Book.{Book}
-use Rattle.ts_user.specs.Books.{residuals_of, next_on, next_with, all_unread, IsNumberOf, NextSays, NextsSay, IsBook, Grows, IsFound, IsAfter}
+use Rattle.ts_user.specs.Books.{residuals_of, next_on, next_with, all_unread, IsNumberOf, NextSays, NextsSay, IsBook, IsFound, IsAfter}
 use Rattle.ts_forms.specs.declared.forms.Forms.{Forms}
 use Rattle.ts_forms.specs.Nodes.{form_at}
-use Rattle.ts_forms.specs.Tables.{shapes as shapes_in, IsNumberOf as IsFormOf, IsTable, IsPut, AreThere, forms_at}
+use Rattle.ts_forms.specs.Tables.{shapes as shapes_in, Grows, IsNumberOf as IsFormOf, IsTable, IsPut, AreThere, forms_at}
 use Rattle.ts_forms.proofs.Growth.{all_there_on, all_forms_on}
 use Rattle.ts_user.proofs.Places.{at_most}
 

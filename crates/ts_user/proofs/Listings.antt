@@ -7,6 +7,7 @@ use Rattle.std.proofs.lemmas.Option.{slice_get_read, slice_get_within, none-some
 use Rattle.ts_base.specs.declared.letter.Letter.{Letter}
 use Rattle.ts_base.specs.declared.letter.Letter.TheVariants.{Less, Greater}
 use Rattle.ts_regex.specs.Shape.{Shape}
+use Rattle.ts_forms.specs.Tables.{Grows}
 use Rattle.ts_pattern.specs.declared.plan.Tag.{Tag}
 use Rattle.ts_pattern.specs.declared.plan.Live.{Live}
 use Rattle.ts_pattern.specs.declared.plan.Configuration.{Configuration}
@@ -23,7 +24,7 @@ use Rattle.ts_user.specs.BuildAnswers.{most_configurations, IsRefused, IsStop}
 use Rattle.ts_user.specs.Numbered.{AreNumbered, live_numbers, entry_numbers}
 use Rattle.ts_user.specs.declared.keys.Keys.{Keys}
 use Rattle.ts_user.specs.Keys.{key_lists, configuration_key, IsPlaced}
-use Rattle.ts_user.specs.Books.{residuals_of, IsBook, Grows, AreListed, values, value_of, IsStep}
+use Rattle.ts_user.specs.Books.{residuals_of, IsBook, AreListed, values, value_of, IsStep}
 use Rattle.ts_user.specs.Listings.{IsTaken, IsReady, signatures_of, IsBegun, IsListed, AreSame, IsNew, IsFull}
 use Rattle.ts_user.proofs.Places.{place_push}
 use Rattle.ts_user.proofs.KeyLaws.{key_at, key_there, same_configuration, configuration_keys_same}

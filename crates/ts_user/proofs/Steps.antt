@@ -10,6 +10,8 @@ use Rattle.ts_regex.specs.Shape.{Shape}
 use Rattle.ts_regex.specs.Derivative.{has_word, nullable, has_longer}
 use Rattle.ts_regex.specs.NormalForm.{residual, normal_form, same_shape}
 use Rattle.ts_regex.proofs.Laws.{same_law}
+use Rattle.ts_forms.specs.Tables.{Grows}
+use Rattle.ts_forms.proofs.Growth.{grows_not, grows_on}
 use Rattle.ts_transducer.specs.declared.row.Phase.{Phase}
 use Rattle.ts_transducer.specs.declared.row.Arrow.{Arrow}
 use Rattle.ts_transducer.specs.declared.row.Row.{Row}
@@ -31,7 +33,7 @@ use Rattle.ts_validate.proofs.Looking.{row_is}
 use Rattle.ts_user.specs.declared.book.Book.{Book}
 use Rattle.ts_user.specs.FirstReached.{unplanned}
 use Rattle.ts_user.specs.Numbered.{AreNumbered, live_numbers}
-use Rattle.ts_user.specs.Books.{residuals_of, IsNumberOf, IsBook, Grows, IsAfter, AreListed, values, IsAdded, IsLeft, with_new, value_of, IsStep}
+use Rattle.ts_user.specs.Books.{residuals_of, IsNumberOf, IsBook, IsAfter, AreListed, values, IsAdded, IsLeft, with_new, value_of, IsStep}
 use Rattle.ts_user.proofs.Books.{book_length, push_length, shape_old, found_grows}
 
 -- more residuals
@@ -60,20 +62,6 @@ pub values_grow : (old new : List Shape) (es : List Live) → Grows old new → 
 values_grow old new [] g h = refl
 values_grow old new (e ∷ es) g h =
     ap (λ z. z ∷ values new es) (value_grow old new e g h.0) ∙ ap (λ z. entry_value old (plain_live e) ∷ z) (values_grow old new es g h.1)
-
-append_assoc : (a b c : List Shape) → (a ++ b) ++ c ≡ a ++ (b ++ c)
-append_assoc [] b c = refl
-append_assoc (x ∷ a) b c = ap (λ z. x ∷ z) (append_assoc a b c)
-
-append_none : (xs : List Shape) → xs ++ [] ≡ xs
-append_none [] = refl
-append_none (x ∷ xs) = ap (λ z. x ∷ z) (append_none xs)
-
-pub grows_on : (a b c : List Shape) → Grows a b → Grows b c → Grows a c
-grows_on a b c g h = (g.0 ++ h.0, h.1 ∙ ap (λ z. z ++ h.0) g.1 ∙ append_assoc a g.0 h.0)
-
-pub grows_not : (a : List Shape) → Grows a a
-grows_not a = ([], sym (append_none a))
 
 -- numbers in their order
 

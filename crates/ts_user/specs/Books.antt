@@ -7,7 +7,7 @@ use Rattle.ts_base.specs.declared.letter.Letter.TheVariants.{Less, Equal, Greate
 use Rattle.ts_regex.specs.Shape.{Shape}
 use Rattle.ts_regex.specs.Derivative.{has_word}
 use Rattle.ts_regex.specs.NormalForm.{residual, normal_form}
-use Rattle.ts_forms.specs.Tables.{shapes as shapes_in, IsTable, AreThere, forms_at}
+use Rattle.ts_forms.specs.Tables.{shapes as shapes_in, Grows, IsTable, AreThere, forms_at}
 use Rattle.ts_pattern.specs.declared.plan.Tag.{Tag}
 use Rattle.ts_pattern.specs.declared.plan.Live.{Live}
 use Rattle.ts_pattern.specs.declared.plan.Configuration.{Configuration}
@@ -64,10 +64,6 @@ pub record IsBook (p : Shape) (b : Book) : Type 0 where
   pub once : AreDifferent (residuals_of b)
   pub nexts : (i : ℕ) (n : Nexts) → slice_get b.nexts.items i ≡ Some n →
       NextsSay (residuals_of b) (shape_at (residuals_of b) i) n
-
--- more residuals came last
-abbrev pub Grows : List Shape → List Shape → Type 0
-Grows old new = (more : List Shape) × (new ≡ old ++ more)
 
 -- r stood there or comes last now, and j is its number
 abbrev pub IsFound : List Shape → List Shape → Shape → ℕ → Type 0
