@@ -1,9 +1,9 @@
 -- The value whose end is best, the least of several, by looking at one value after another.
-use Rattle.std.proofs.Common.{◌≡◌, ◌⊎◌, ℕ, ℤ, ◌≤ℤ◌, ◌<ℤ◌, Bool, true, false, not, List, [], ◌∷◌}
-use Rattle.std.proofs.Common.{Option, Some, None, refl, sym, ◌∙◌, ap, subst, inl, inr, ⊎_elim, arith}
+use Rattle.std.proofs.Common.{◌≡◌, ◌⊎◌, ℕ, ◌≤◌, ℤ, ◌≤ℤ◌, ◌<ℤ◌, Bool, true, false, not, List, [], ◌∷◌}
+use Rattle.std.proofs.Common.{Option, Some, None, drop, length, slice_get, refl, sym, ◌∙◌, ap, subst, inl, inr, ⊎_elim, arith}
 use Rattle.std.proofs.lemmas.Int.{ints}
 use Rattle.std.proofs.lemmas.Bool.{not-false, not-true, not_from_false}
-use Rattle.std.proofs.lemmas.Option.{none-some}
+use Rattle.std.proofs.lemmas.Option.{none-some, same_Some}
 use Rattle.std.specs.Prelude.{Contains}
 use Rattle.ts_base.specs.declared.ext.Ext.{Ext}
 use Rattle.ts_base.specs.declared.goal.Goal.{Goal}
@@ -117,6 +117,25 @@ module _ (goal : Goal) (end : ℤ → Ext) (all : List ℤ) where
 
   pub kept_of_all : (left : List ℤ) (kept : ℤ) → IsSoFar goal end all left kept → left ≡ [] → (u : ℤ) → Contains all u → IsPreferred goal end kept u
   kept_of_all left kept h e u c = ⊎_elim (λ l. absurd (nothing_in u (subst (λ z. Contains z u) e l))) (λ g. g) (h.over u c)
+
+-- the least value is kept before the others are gone through
+pub kept_begins : (goal : Goal) (end : ℤ → Ext) (all : List ℤ) (first : ℤ) → IsRising all → slice_get all 0 ≡ Some first →
+    IsSoFar goal end all (drop 1 all) first
+kept_begins goal end [] first rises e = absurd (none-some first e)
+kept_begins goal end (v ∷ rest) first rises e =
+    let r = rising_parts v rest rises in
+    subst (λ w. IsSoFar goal end (v ∷ rest) rest w) (same_Some v first e) (record {
+      there = (contains_cons v rest v).1 (inl refl);
+      inside = λ u c. (contains_cons v rest u).1 (inr c);
+      rises = r.1;
+      low = λ u c. less v u (each_contains (λ y. v <ℤ y) rest u r.0 c);
+      over = λ u c. ⊎_elim (λ same. inr (subst (λ x. IsPreferred goal end v x) same (prefer_self goal end v))) (λ g. inl g)
+          ((contains_cons v rest u).0 c);
+    })
+
+pub some_first : (all : List ℤ) (first : ℤ) → slice_get all 0 ≡ Some first → 1 ≤ length all
+some_first [] first e = absurd (none-some first e)
+some_first (v ∷ rest) first e = omega arith
 
 -- the comparison that the code makes is that of the ends
 pub told_so : (goal : Goal) (x y e f : Ext) (r t : Bool) → r ≡ is_better goal x y → x ≡ e → y ≡ f → r ≡ t → is_better goal e f ≡ t

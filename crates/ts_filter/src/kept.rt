@@ -71,14 +71,14 @@ fn preferred(hulls: &CellHulls<'_>, goal: Goal) -> i64
     let values = hulls.values();
     let mut kept = values.least();
     let mut best = hulls.best_end_at(goal, 0, kept);
-    let mut i = 0;
-    for v in values.values() {
-        let end = hulls.best_end_at(goal, i, v);
+    let mut place = 0;
+    for v in values.values_from(1) {
+        place += 1;
+        let end = hulls.best_end_at(goal, place, v);
         if is_better(goal, end, best) {
             kept = v;
             best = end;
         }
-        i += 1;
     }
     kept
 }

@@ -1,4 +1,4 @@
-use Rattle.std.proofs.Common.{◌≡◌, drop}
+use Rattle.std.proofs.Common.{◌≡◌, ◌+◌, drop}
 use Rattle.ts_filter.specs.Boxes.{values_at}
 use Rattle.ts_filter.specs.KeptValue.{end_in}
 use Rattle.ts_filter.proofs.KeptLaws.{IsSoFar}
@@ -8,5 +8,5 @@ abbrev pub invariant-loop-v : goal.invariant-loop-v
 invariant-loop-v l =
     IsSoFar l.goal (end_in l.hulls.machine l.goal l.hulls.cell l.hulls.cells) (values_at l.hulls.cell l.hulls.cells)
     l.v-iterator l.kept
-    × (l.v-iterator ≡ drop l.i (values_at l.hulls.cell l.hulls.cells))
+    × (l.v-iterator ≡ drop (l.place + 1) (values_at l.hulls.cell l.hulls.cells))
     × (l.best ≡ end_in l.hulls.machine l.goal l.hulls.cell l.hulls.cells l.kept)
