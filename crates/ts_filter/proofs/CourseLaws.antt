@@ -1,8 +1,8 @@
 -- Where drops may still be while they are looked for cell by cell: of one term, and of all.
-use Rattle.std.proofs.Common.{◌≡◌, ◌⊎◌, ℕ, min, zero, suc, ◌+◌, ◌<◌, ◌≤◌, Bool, true, false, cond, List, [], ◌∷◌, ◌++◌, length, set, get_or}
+use Rattle.std.proofs.Common.{◌≡◌, ◌⊎◌, ℕ, min, zero, suc, ◌+◌, ◌-◌, ◌<◌, ◌≤◌, Bool, true, false, cond, List, [], ◌∷◌, ◌++◌, length, set, get_or}
 use Rattle.std.proofs.Common.{Option, Some, None, option_map, slice_get, refl, sym, ◌∙◌, ap, subst, inl, inr, ⊎_elim, arith}
 use Rattle.std.proofs.Math.Seq.{map-set_same}
-use Rattle.std.proofs.lemmas.List.{length-map, length-set}
+use Rattle.std.proofs.lemmas.List.{length-map}
 use Rattle.std.proofs.lemmas.List.Elements.{All-set}
 use Rattle.std.proofs.lemmas.Option.{get_or_from_slice_get, none-some, same_Some, slice_get-get_or, slice_get-map, slice_get_read, slice_get_within}
 use Rattle.std.specs.Prelude.{IfOk, IsSome, Result, Ok, Err, is_some}
@@ -13,10 +13,12 @@ use Rattle.ts_domain.specs.BoxSeries.{IsBox}
 use Rattle.ts_model.specs.declared.model.Require.{Require}
 use Rattle.ts_filter.specs.declared.courses.Course.{Course}
 use Rattle.ts_filter.specs.declared.courses.Step.{Step}
+use Rattle.ts_filter.specs.declared.courses.TermCourse.{TermCourse}
 use Rattle.ts_filter.specs.declared.drops.Removal.{Removal}
 use Rattle.ts_filter.specs.declared.term_requirements.TermRequirements.{TermRequirements}
 use Rattle.ts_filter.specs.Boxes.{Box}
-use Rattle.ts_filter.specs.Courses.{AllFrom, AreAsked, AreCourses, ArePassed, EachCourse, IsCellDrop, IsCourse, IsPassed, IsStep, past_all}
+use Rattle.ts_filter.specs.Courses.{AllFrom, AreAsked, AreCourses, ArePassed, EachCourse, HasCourse, IsCellDrop, IsCourse, IsPassed, IsStep, IsTermCourse}
+use Rattle.ts_filter.specs.Courses.{past_all}
 use Rattle.ts_filter.specs.Drops.{MayDrop, IsNoLater, IsFirstOf, IsFirstDrop}
 use Rattle.ts_filter.specs.KeptCells.{IsKeptIfKnown, TermKept, spared_in}
 use Rattle.ts_filter.specs.KnownRows.{KnownRows, AreKnown}
@@ -24,7 +26,7 @@ use Rattle.ts_filter.specs.MachineSpans.{spans_of}
 use Rattle.ts_filter.specs.OfTerm.{OfTerm}
 use Rattle.ts_filter.specs.Tables.{AreRowsOfEach, machines_of}
 use Rattle.ts_filter.specs.TermDrops.{IsDropAt, IsDropUpTo, IsRefutedOutside, IsTermDrop, MayHaveDrop, comes_before, earlier_of}
-use Rattle.ts_filter.proofs.DropLaws.{DropBelow, first_here_more, first_of_all_here, from_drop, may_have, no_drop_of_one, term_there}
+use Rattle.ts_filter.proofs.DropLaws.{DropOf, first_here_more, first_of_all_here, from_drop, may_have, no_drop_of_one}
 use Rattle.ts_filter.proofs.SparedLaws.{found_after_set, none_at}
 use Rattle.ts_filter.proofs.TermsAsked.{looks_of}
 
@@ -132,7 +134,7 @@ module _ (rs : List Require) (term : ℕ) (a : Automata) (b : Box) where
     pub next_usable : c.before < past_all → IsUsableOf a (c.before + 1) b
     next_usable l = let g = (h.going l).0 in h.usable (c.before + 1) (omega arith) (omega (arith, g))
 
-    -- the course behind it
+    -- the course after it
     pub next_course : (kept : Option TermKept) → IsKeptIfKnown rs term a b kept → (before : ℕ) (found : Option Removal) → is_some found ≡ false →
         c.before < past_all → IsFirstOf (IsDropAt rs term a b (c.before + 1)) found → ArePassed kept b (c.before + 1) c.last before → c.before + 1 ≤ before →
         (before < c.last) ⊎ (before ≡ past_all) → IsCourse rs term a b (record { before = before; last = c.last; outside = c.outside })
@@ -241,52 +243,79 @@ set_here (y ∷ xs) (suc i) x l = set_here xs i x (omega (arith, l))
 
 -- the least of one more
 
-pub less_before : (cs : List Course) (i least less : ℕ) (e : Course) → i < length cs → less ≡ min least (get_or cs i e).before →
-    ((j : ℕ) (c : Course) → j < i → slice_get cs j ≡ Some c → least ≤ c.before) → (j : ℕ) (c : Course) → j < i + 1 → slice_get cs j ≡ Some c → less ≤ c.before
+pub less_before : (cs : List TermCourse) (i least less : ℕ) (e : TermCourse) → i < length cs → less ≡ min least (get_or cs i e).course.before →
+    ((j : ℕ) (c : TermCourse) → j < i → slice_get cs j ≡ Some c → least ≤ c.course.before) → (j : ℕ) (c : TermCourse) → j < i + 1 →
+    slice_get cs j ≡ Some c → less ≤ c.course.before
 less_before cs i least less e lt is h j c l at =
     ⊎_elim
-    (λ same. subst (λ (z : Course). less ≤ z.before)
+    (λ same. subst (λ (z : TermCourse). less ≤ z.course.before)
     (get_or_from_slice_get cs i c e (subst (λ n. slice_get cs n ≡ Some c) same at)) (omega (arith, is)))
     (λ before. let le = h j c before at in omega (arith, is, le)) (here_or_before j i l)
 
-pub no_less : (cs : List Course) (i least less m : ℕ) (e : Course) → i < length cs → less ≡ min least (get_or cs i e).before → AllFrom m cs → m ≤ least →
-    m ≤ less
+pub no_less : (cs : List TermCourse) (i least less m : ℕ) (e : TermCourse) → i < length cs → less ≡ min least (get_or cs i e).course.before →
+    AllFrom m cs → m ≤ least → m ≤ less
 no_less cs i least less m e lt is from le = let one = from i (get_or cs i e) (slice_get-get_or cs i e lt) in omega (arith, one, le, is)
 
--- the first ones, in their order
-pub record AreBegun (rs : List Require) (ms : List Automata) (b : Box) (cs : List Course) (term : ℕ) : Type 0 where
-  pub count : length cs ≡ term
+-- those of the terms that the first requirements name
+pub record AreBegun (rs : List Require) (ms : List Automata) (b : Box) (cs : List TermCourse) (count : ℕ) : Type 0 where
   pub each : EachCourse rs ms b cs
+  pub all : (i : ℕ) (r : Require) → i < count → slice_get rs i ≡ Some r → HasCourse cs r.term
+
+still_there : {X : Type 0} (xs : List X) (i : ℕ) (x y : X) → slice_get xs i ≡ Some y → slice_get (xs ++ x ∷ []) i ≡ Some y
+still_there [] i x y e = absurd (none-some y e)
+still_there (z ∷ xs) zero x y e = e
+still_there (z ∷ xs) (suc i) x y e = still_there xs i x y e
+
+last_there : {X : Type 0} (xs : List X) (x : X) → slice_get (xs ++ x ∷ []) (length xs) ≡ Some x
+last_there [] x = refl
+last_there (z ∷ xs) x = last_there xs x
 
 module _ (rs : List Require) (ms : List Automata) (b : Box) where
-  pub none_begun : (cs : List Course) → cs ≡ [] → AreBegun rs ms b cs 0
-  none_begun cs is = record { count = ap length is; each = λ i a c has at. absurd (none-some c (ap (λ l. slice_get l i) (sym is) ∙ at)) }
-
-  pub one_begun : (cs cs' : List Course) (term : ℕ) (course : Course) → AreBegun rs ms b cs term → OfTerm ms term (λ a. IsCourse rs term a b course) →
-      cs' ≡ cs ++ course ∷ [] → AreBegun rs ms b cs' (term + 1)
-  one_begun cs cs' term course h new now = record {
-    count = ap length now ∙ length_push cs course ∙ ap (λ n. n + 1) h.count;
-    each = λ i a c has at.
-        ⊎_elim (λ g. here i a c has (g.0 ∙ h.count) g.1) (λ g. h.each i a c has g)
-        (found_after_push cs i course c (ap (λ l. slice_get l i) (sym now) ∙ at));
+  pub none_begun : (cs : List TermCourse) → cs ≡ [] → AreBegun rs ms b cs 0
+  none_begun cs is = record {
+    each = λ i c at. absurd (none-some c (ap (λ l. slice_get l i) (sym is) ∙ at));
+    all = λ i r l at. absurd (omega (arith, l));
   }
-    where
-      here : (i : ℕ) (a : Automata) (c : Course) → slice_get ms i ≡ Some a → i ≡ term → c ≡ course → IsCourse rs i a b c
-      here i a c has e is =
-          subst (IsCourse rs i a b) (sym is)
-          (subst (λ n. IsCourse rs n a b course) (sym e) (new a (subst (λ n. slice_get ms n ≡ Some a) e has)))
 
-  pub all_begun : (cs : List Course) (term : ℕ) → AreBegun rs ms b cs term → term ≡ length ms → AreCourses rs ms b cs
-  all_begun cs term h end = record { count = h.count ∙ end; each = h.each }
+  -- the term of one more has a course
+  module _ (cs : List TermCourse) (count : ℕ) (r : Require) (lt : count < length rs) (is : r ≡ get_or rs count r) (h : AreBegun rs ms b cs count) where
+    with_this : (cs' : List TermCourse) → ((z : ℕ) → HasCourse cs z → HasCourse cs' z) → HasCourse cs' r.term → (i : ℕ) (q : Require) → i < count + 1 →
+        slice_get rs i ≡ Some q → HasCourse cs' q.term
+    with_this cs' stay new i q l at =
+        ⊎_elim
+        (λ e. subst (λ (z : Require). HasCourse cs' z.term)
+        (same_Some r q (sym (slice_get_read rs (length rs) count r refl lt is) ∙ subst (λ n. slice_get rs n ≡ Some q) e at)) new)
+        (λ before. stay q.term (h.all i q before at)) (here_or_before i count l)
+
+    pub was_begun : HasCourse cs r.term → AreBegun rs ms b cs (count + 1)
+    was_begun has = record { each = h.each; all = with_this cs (λ z g. g) has }
+
+    pub one_begun : (cs' : List TermCourse) (course : Course) → r.term < length ms → OfTerm ms r.term (λ a. IsCourse rs r.term a b course) →
+        cs' ≡ cs ++ record { term = r.term; course = course } ∷ [] → AreBegun rs ms b cs' (count + 1)
+    one_begun cs' course there new now =
+        let x : TermCourse = record { term = r.term; course = course } in
+        subst (λ l. AreBegun rs ms b l (count + 1)) (sym now) (record {
+          each = λ i c at. ⊎_elim (λ g. of_new c g.1) (λ g. h.each i c g) (found_after_push cs i x c at);
+          all = with_this (cs ++ x ∷ [])
+              (λ z g. record { place = g.place; course = g.course; there = still_there cs g.place x g.course g.there; of_term = g.of_term })
+              (record { place = length cs; course = x; there = last_there cs x; of_term = refl });
+        })
+      where
+        of_new : (c : TermCourse) → c ≡ record { term = r.term; course = course } → IsTermCourse rs ms b c
+        of_new c e = subst (IsTermCourse rs ms b) (sym e) (there, new)
+
+  pub all_begun : (cs : List TermCourse) (count : ℕ) → AreBegun rs ms b cs count → length rs ≤ count → AreCourses rs ms b cs
+  all_begun cs count h end = record { each = h.each; all = λ i r at. h.all i r (let l = slice_get_within rs i r at in omega (arith, l, end)) at }
 
   -- no drop comes before the next cells of all courses
-  pub drops_after : (before : ℕ) (cs : List Course) → AllByRecursion (λ a. LooksIn a b) ms → AllByRecursion (λ (r : Require). r.term < length ms) rs →
-      AreCourses rs ms b cs → AllFrom before cs → (t : Removal) → MayDrop rs (spans_of ms) b t → before < t.cell
-  drops_after before cs looks terms courses from t d =
-      let term = d.refuted.require.term in let below = term_there rs ms b (length ms) terms t d in let count = courses.count in
-      let a = element_at ms term below in let c = element_at cs term (omega (arith, below, count)) in
-      let ahead = (courses.each term a.0 c.0 a.1 c.1).holds t (from_drop rs ms b term a.0 a.1 (looks_of b ms term looks a.0 a.1) t d refl) in
-      let least = from term c.0 c.1 in let more = ahead.0 in omega (arith, least, more)
+  pub drops_after : (before : ℕ) (cs : List TermCourse) → AllByRecursion (λ a. LooksIn a b) ms → AreCourses rs ms b cs → AllFrom before cs →
+      (t : Removal) → MayDrop rs (spans_of ms) b t → before < t.cell
+  drops_after before cs looks courses from t d =
+      let h = courses.all (t.require - 1) d.refuted.require d.refuted.is.1 in let term = h.course.term in
+      let own = courses.each h.place h.course h.there in
+      let a = element_at ms term own.0 in
+      let ahead = (own.1 a.0 a.1).holds t (from_drop rs ms b term a.0 a.1 (looks_of b ms term looks a.0 a.1) t d (sym h.of_term)) in
+      let least = from h.place h.course h.there in let more = ahead.0 in omega (arith, least, more)
 
   -- the first at the first cell that has one is the first of all
 
@@ -303,12 +332,53 @@ module _ (rs : List Require) (ms : List Automata) (b : Box) where
       IsFirstDrop rs (spans_of ms) b None
   none_found before after end t d = let l = after t d in let to = d.cell.1 in omega (arith, l, to, end)
 
--- the terms before `term` have been asked for their drops at the cell after the first `before`
-pub record AskedBelow (rs : List Require) (ms : List Automata) (b : Box) (before term : ℕ) (cs : List Course) (found : Option Removal) : Type 0 where
+-- one of the first courses is that of the term
+pub record IsOfFirst (cs : List TermCourse) (count term : ℕ) : Type 0 where
+  pub has : HasCourse cs term
+  pub below : has.place < count
+
+-- at each place these have a course of a term that the others have there too
+abbrev HaveTerms : List TermCourse → List TermCourse → Type 0
+HaveTerms cs cs' = (i : ℕ) (c : TermCourse) → slice_get cs i ≡ Some c → (d : TermCourse) × (slice_get cs' i ≡ Some d) × (d.term ≡ c.term)
+
+-- the terms of the first courses have been asked for their drops at the cell after the first `before`
+pub record AskedBelow (rs : List Require) (ms : List Automata) (b : Box) (before place : ℕ) (cs : List TermCourse) (found : Option Removal) : Type 0 where
   pub courses : AreCourses rs ms b cs
   pub from : AllFrom before cs
-  pub past : found ≡ None → (i : ℕ) (c : Course) → i < term → slice_get cs i ≡ Some c → before < c.before
-  pub first : IsFirstOf (λ r. DropBelow rs ms b term r × (r.cell ≡ before + 1)) found
+  pub past : found ≡ None → (i : ℕ) (c : TermCourse) → i < place → slice_get cs i ≡ Some c → before < c.course.before
+  pub first : IsFirstOf (λ r. DropOf rs ms b (IsOfFirst cs place) r × (r.cell ≡ before + 1)) found
+
+-- another course of the same term
+same_terms : (cs : List TermCourse) (i : ℕ) (new c : TermCourse) → slice_get cs i ≡ Some c → new.term ≡ c.term → HaveTerms cs (set cs i new)
+same_terms [] i new c at same j d there = absurd (none-some c at)
+same_terms (x ∷ cs) zero new c at same zero d there = (new, refl, same ∙ ap (λ (z : TermCourse). z.term) (same_Some c d (sym at ∙ there)))
+same_terms (x ∷ cs) zero new c at same (suc j) d there = (d, there, refl)
+same_terms (x ∷ cs) (suc i) new c at same zero d there = (d, there, refl)
+same_terms (x ∷ cs) (suc i) new c at same (suc j) d there = same_terms cs i new c at same j d there
+
+same_before : (cs : List TermCourse) (i : ℕ) (new c : TermCourse) → slice_get cs i ≡ Some c → new.term ≡ c.term → HaveTerms (set cs i new) cs
+same_before cs i new c at same j d there =
+    ⊎_elim (λ g. (c, subst (λ n. slice_get cs n ≡ Some c) (sym g.0) at, sym same ∙ ap (λ (z : TermCourse). z.term) (sym g.2))) (λ g. (d, g, refl))
+    (found_after_set cs i j new d there)
+
+module _ (cs cs' : List TermCourse) (place : ℕ) (c : TermCourse) (at : slice_get cs place ≡ Some c) where
+  of_next : HaveTerms cs cs' → (term : ℕ) → IsOfFirst cs place term ⊎ (term ≡ c.term) → IsOfFirst cs' (place + 1) term
+  of_next have term (inl h) =
+      let g = have h.has.place h.has.course h.has.there in let l = h.below in record {
+        has = record { place = h.has.place; course = g.0; there = g.1; of_term = g.2 ∙ h.has.of_term };
+        below = omega (arith, l);
+      }
+  of_next have term (inr e) =
+      let g = have place c at in record { has = record { place = place; course = g.0; there = g.1; of_term = g.2 ∙ sym e }; below = omega arith }
+
+  next_or_before : HaveTerms cs' cs → (term : ℕ) → IsOfFirst cs' (place + 1) term → IsOfFirst cs place term ⊎ (term ≡ c.term)
+  next_or_before have term h =
+      let g = have h.has.place h.has.course h.has.there in
+      ⊎_elim
+      (λ e. inr (sym (g.2 ∙ h.has.of_term) ∙ ap (λ (z : TermCourse). z.term)
+      (same_Some g.0 c (sym g.1 ∙ subst (λ n. slice_get cs n ≡ Some c) (sym e) at))))
+      (λ l. inl (record { has = record { place = h.has.place; course = g.0; there = g.1; of_term = g.2 ∙ h.has.of_term }; below = l }))
+      (here_or_before h.has.place place h.below)
 
 no_earlier : (x : Option Removal) → earlier_of x None ≡ x
 no_earlier None = refl
@@ -324,81 +394,99 @@ both_none (Some r) (Some t) e = absurd (never (comes_before t r) e)
     never false e = let z : ◌≡◌ {A = Option Removal} (Some r) None = e in cc
 
 module _ (rs : List Require) (ms : List Automata) (b : Box) (before : ℕ) where
-  pub none_asked : (cs : List Course) → AreCourses rs ms b cs → AllFrom before cs → AskedBelow rs ms b before 0 cs None
+  pub none_asked : (cs : List TermCourse) → AreCourses rs ms b cs → AllFrom before cs → AskedBelow rs ms b before 0 cs None
   none_asked cs courses from = record {
     courses = courses;
     from = from;
     past = λ e i c l at. absurd (omega (arith, l));
-    first = λ t h. let l = h.0.1 in omega (arith, l);
+    first = λ t h. let l = h.0.1.below in omega (arith, l);
   }
 
-  pub all_asked : (term : ℕ) (cs : List Course) (first : Option Removal) → AllByRecursion (λ (r : Require). r.term < length ms) rs → length ms ≤ term →
-      AskedBelow rs ms b before term cs first → AreAsked rs ms b before cs first
-  all_asked term cs first terms end h = record {
+  pub all_asked : (place : ℕ) (cs : List TermCourse) (first : Option Removal) → length cs ≤ place → AskedBelow rs ms b before place cs first →
+      AreAsked rs ms b before cs first
+  all_asked place cs first end h = record {
     courses = h.courses;
-    past = λ none i c at.
-        let count = h.courses.count in let there = slice_get_within cs i c at in
-        let l = h.past none i c (omega (arith, there, count, end)) at in omega (arith, l);
-    first = first_of_all_here rs ms b term (length ms) (before + 1) first terms end h.first;
+    past = λ none i c at. let l = h.past none i c (within i c at) at in omega (arith, l);
+    first = first_of_all_here rs ms b (IsOfFirst cs place)
+        (λ t d. let g = h.courses.all (t.require - 1) d.refuted.require d.refuted.is.1 in record { has = g; below = within g.place g.course g.there })
+        (before + 1) first h.first;
   }
+    where
+      within : (i : ℕ) (c : TermCourse) → slice_get cs i ≡ Some c → i < place
+      within i c at = let there = slice_get_within cs i c at in omega (arith, there, end)
 
-  module _ (term : ℕ) (cs : List Course) (first : Option Removal) (c : Course) (looks : AllByRecursion (λ a. LooksIn a b) ms) (lt : term < length ms)
-      (at : slice_get cs term ≡ Some c) (h : AskedBelow rs ms b before term cs first) where
+  module _ (place : ℕ) (cs : List TermCourse) (first : Option Removal) (c : TermCourse) (looks : AllByRecursion (λ a. LooksIn a b) ms)
+      (at : slice_get cs place ≡ Some c) (h : AskedBelow rs ms b before place cs first) where
+    its_machine : (a : Automata) × (slice_get ms c.term ≡ Some a)
+    its_machine = element_at ms c.term (h.courses.each place c at).0
+
+    -- the first one of the next term too, whose course may be another one then
+    with_next : (cs' : List TermCourse) → HaveTerms cs cs' → HaveTerms cs' cs → (found : Option Removal) →
+        IsFirstOf (IsDropAt rs c.term its_machine.0 b (before + 1)) found →
+        IsFirstOf (λ r. DropOf rs ms b (IsOfFirst cs' (place + 1)) r × (r.cell ≡ before + 1)) (earlier_of first found)
+    with_next cs' there back found next =
+        first_here_more rs ms b c.term its_machine.0 its_machine.1 (looks_of b ms c.term looks its_machine.0 its_machine.1)
+        (IsOfFirst cs place) (IsOfFirst cs' (place + 1)) (of_next cs cs' place c at there)
+        (next_or_before cs cs' place c at back) (before + 1) first found h.first next
+
     -- it has no drop there
 
-    more : (c.before ≡ before → ⊥) → before < c.before
-    more other = let le = h.from term c at in grind (arith, le, other)
+    more : (c.course.before ≡ before → ⊥) → before < c.course.before
+    more other = let le = h.from place c at in grind (arith, le, other)
 
-    pub passed_over : (c.before ≡ before → ⊥) → AskedBelow rs ms b before (term + 1) cs first
+    pub passed_over : (c.course.before ≡ before → ⊥) → AskedBelow rs ms b before (place + 1) cs first
     passed_over other =
-        let a = element_at ms term lt in let less = more other in record {
+        let less = more other in record {
           courses = h.courses;
           from = h.from;
           past = λ none i d l there.
               ⊎_elim
-              (λ e. subst (λ (z : Course). before < z.before) (same_Some c d (sym at ∙ subst (λ n. slice_get cs n ≡ Some d) e there)) less)
-              (λ l. h.past none i d l there) (here_or_before i term l);
-          first = subst (IsFirstOf (λ r. DropBelow rs ms b (term + 1) r × (r.cell ≡ before + 1))) (no_earlier first)
-              (first_here_more rs ms b term a.0 a.1 (looks_of b ms term looks a.0 a.1) (before + 1) first None h.first
-              (none_elsewhere rs term a.0 b c (h.courses.each term a.0 c a.1 at) (before + 1) (omega (arith, less))));
+              (λ e. subst (λ (z : TermCourse). before < z.course.before) (same_Some c d (sym at ∙ subst (λ n. slice_get cs n ≡ Some d) e there)) less)
+              (λ l. h.past none i d l there) (here_or_before i place l);
+          first = subst (IsFirstOf (λ r. DropOf rs ms b (IsOfFirst cs (place + 1)) r × (r.cell ≡ before + 1))) (no_earlier first)
+              (with_next cs (λ i d there. (d, there, refl)) (λ i d there. (d, there, refl)) None
+              (none_elsewhere rs c.term its_machine.0 b c.course ((h.courses.each place c at).1 its_machine.0 its_machine.1) (before + 1)
+              (omega (arith, less))));
         }
 
     -- it has been asked
-    module _ (step : Step) (same : c.before ≡ before) (told : OfTerm ms term (λ a. IsStep rs term a b c step)) where
-      abbrev pub changed : List Course
-      changed = set cs term step.course
+    module _ (step : Step) (same : c.course.before ≡ before) (told : OfTerm ms c.term (λ a. IsStep rs c.term a b c.course step)) where
+      abbrev next : TermCourse
+      next = record { term = c.term; course = step.course }
 
-      own : (i : ℕ) (z : Automata) (d : Course) → slice_get ms i ≡ Some z → i ≡ term → d ≡ step.course → IsCourse rs i z b d
-      own i z d has e is =
-          subst (IsCourse rs i z b) (sym is)
-          (subst (λ n. IsCourse rs n z b step.course) (sym e) (told z (subst (λ n. slice_get ms n ≡ Some z) e has)).course)
+      abbrev changed : List TermCourse
+      changed = set cs place next
 
-      past_this : step.found ≡ None → (d : Course) → slice_get changed term ≡ Some d → before < d.before
+      own : (d : TermCourse) → d ≡ next → IsTermCourse rs ms b d
+      own d is = subst (IsTermCourse rs ms b) (sym is) ((h.courses.each place c at).0, λ a has. (told a has).course)
+
+      past_this : step.found ≡ None → (d : TermCourse) → slice_get changed place ≡ Some d → before < d.course.before
       past_this none d there =
-          let a = element_at ms term lt in let s = told a.0 a.1 in let l = s.past none in
-          let is = same_Some step.course d (sym (set_here cs term step.course (slice_get_within cs term c at)) ∙ there) in
-          subst (λ (z : Course). before < z.before) is (omega (arith, l, same))
+          let l = (told its_machine.0 its_machine.1).past none in
+          let is = same_Some next d (sym (set_here cs place next (slice_get_within cs place c at)) ∙ there) in
+          subst (λ (z : TermCourse). before < z.course.before) is (omega (arith, l, same))
 
-      past_others : first ≡ None → (i : ℕ) (d : Course) → i < term → slice_get changed i ≡ Some d → before < d.before
+      past_others : first ≡ None → (i : ℕ) (d : TermCourse) → i < place → slice_get changed i ≡ Some d → before < d.course.before
       past_others none i d l there =
-          ⊎_elim (λ g. absurd (let e = g.0 in omega (arith, e, l))) (λ g. h.past none i d l g) (found_after_set cs term i step.course d there)
+          ⊎_elim (λ g. absurd (let e = g.0 in omega (arith, e, l))) (λ g. h.past none i d l g) (found_after_set cs place i next d there)
 
-      pub one_asked : (cs' : List Course) (both : Option Removal) → cs' ≡ changed → both ≡ earlier_of first step.found →
-          AskedBelow rs ms b before (term + 1) cs' both
+      pub one_asked : (cs' : List TermCourse) (both : Option Removal) → cs' ≡ changed → both ≡ earlier_of first step.found →
+          AskedBelow rs ms b before (place + 1) cs' both
       one_asked cs' both now is =
-          let a = element_at ms term lt in let s = told a.0 a.1 in let on = s.on in
-          subst (λ l. AskedBelow rs ms b before (term + 1) l both) (sym now) (subst (AskedBelow rs ms b before (term + 1) changed) (sym is) (record {
+          let s = told its_machine.0 its_machine.1 in let on = s.on in
+          subst (λ l. AskedBelow rs ms b before (place + 1) l both) (sym now) (subst (AskedBelow rs ms b before (place + 1) changed) (sym is) (record {
             courses = record {
-              count = length-set cs term step.course ∙ h.courses.count;
-              each = λ i z d has there.
-                  ⊎_elim (λ g. own i z d has g.0 g.2) (λ g. h.courses.each i z d has g) (found_after_set cs term i step.course d there);
+              each = λ i d there. ⊎_elim (λ g. own d g.2) (λ g. h.courses.each i d g) (found_after_set cs place i next d there);
+              all = λ i r there.
+                  let g = h.courses.all i r there in let z = same_terms cs place next c at refl g.place g.course g.there in
+                  record { place = g.place; course = z.0; there = z.1; of_term = z.2 ∙ g.of_term };
             };
             from = λ i d there.
-                ⊎_elim (λ g. subst (λ (z : Course). before ≤ z.before) (sym g.2) (omega (arith, on, same))) (λ g. h.from i d g)
-                (found_after_set cs term i step.course d there);
+                ⊎_elim (λ g. subst (λ (z : TermCourse). before ≤ z.course.before) (sym g.2) (omega (arith, on, same))) (λ g. h.from i d g)
+                (found_after_set cs place i next d there);
             past = λ none i d l there.
                 ⊎_elim (λ e. past_this (both_none first step.found none).1 d (subst (λ n. slice_get changed n ≡ Some d) e there))
-                (λ l. past_others (both_none first step.found none).0 i d l there) (here_or_before i term l);
-            first = first_here_more rs ms b term a.0 a.1 (looks_of b ms term looks a.0 a.1) (before + 1) first step.found h.first
-                (subst (λ n. IsFirstOf (IsDropAt rs term a.0 b (n + 1)) step.found) same s.found);
+                (λ l. past_others (both_none first step.found none).0 i d l there) (here_or_before i place l);
+            first = with_next changed (same_terms cs place next c at refl) (same_before cs place next c at refl) step.found
+                (subst (λ n. IsFirstOf (IsDropAt rs c.term its_machine.0 b (n + 1)) step.found) same s.found);
           }))

@@ -15,7 +15,6 @@ use Rattle.ts_model.specs.declared.model.Require.{Require}
 use Rattle.ts_sweep.specs.Sides.{Sides}
 use Rattle.ts_filter.specs.declared.drops.Removal.{Removal}
 use Rattle.ts_filter.specs.declared.question.Question.{Question}
-use Rattle.ts_filter.specs.declared.term_requirements.TermRequirements.{TermRequirements}
 use Rattle.ts_filter.specs.Boxes.{Box, values_at, only}
 use Rattle.ts_filter.specs.CellHulls.{AreMet, at_cell}
 use Rattle.ts_filter.specs.Drops.{MayDrop, IsNoLater, IsFirstOf, IsFirstDrop}
@@ -197,9 +196,13 @@ module _ (rs : List Require) (term : ℕ) (a : Automata) (b : Box) where
   may_have (Some j) refuted t h = inr refl
 
 module _ (rs : List Require) (ms : List Automata) (b : Box) where
+  -- a drop by a requirement of one of these terms
+  abbrev pub DropOf : (ℕ → Type 0) → Removal → Type 0
+  DropOf T r = (d : MayDrop rs (spans_of ms) b r) × T d.refuted.require.term
+
   -- a drop by a requirement of the first terms
   abbrev pub DropBelow : ℕ → Removal → Type 0
-  DropBelow n r = (d : MayDrop rs (spans_of ms) b r) × (d.refuted.require.term < n)
+  DropBelow n r = DropOf (λ z. z < n) r
 
   module _ (term : ℕ) (a : Automata) (has : slice_get ms term ≡ Some a) (looks : LooksIn a b) where
     span_is : (z k : ℕ) (v : ℤ) → z ≡ term → IsUsableOf a k b → (spans_of ms).span_at z k (only k v b) ≡ value_span a k b v
@@ -240,34 +243,42 @@ module _ (rs : List Require) (ms : List Automata) (b : Box) where
           };
         }
 
+    -- those of one term more
+    module _ (T U : ℕ → Type 0) (both : (z : ℕ) → T z ⊎ (z ≡ term) → U z) (one : (z : ℕ) → U z → T z ⊎ (z ≡ term)) where
+      joined : (t : Removal) → DropOf T t ⊎ IsTermDrop rs term a b t → DropOf U t
+      unfolding to_drop
+      joined t (inl h) = (h.0, both h.0.refuted.require.term (inl h.1))
+      joined t (inr h) = (to_drop t h, both h.refuting.require.term (inr h.refuting.of_term))
+
+      apart : (t : Removal) → DropOf U t → DropOf T t ⊎ IsTermDrop rs term a b t
+      apart t h = ⊎_elim (λ l. inl (h.0, l)) (λ e. inr (from_drop t h.0 e)) (one h.0.refuted.require.term h.1)
+
+      -- the first one up to the cell of the one that was found before
+      first_more : (x y : Option Removal) (to : ℕ) → to ≡ cell_up_to x (length b) → IsFirstOf (λ r. DropOf T r) x →
+          IsFirstOf (IsDropUpTo rs term a b to) y → IsFirstOf (λ r. DropOf U r) (earlier_of x y)
+      first_more x y to is p q =
+          first_same (λ r. DropOf T r ⊎ IsTermDrop rs term a b r) (λ r. DropOf U r) (earlier_of x y) joined apart
+          (first_of_near (λ r. DropOf T r) (IsTermDrop rs term a b) (length b) (λ t h. h.usable.to) x y to is p q)
+
+      -- the first one at a cell
+      pub first_here_more : (k : ℕ) (x y : Option Removal) → IsFirstOf (λ r. DropOf T r × (r.cell ≡ k)) x → IsFirstOf (IsDropAt rs term a b k) y →
+          IsFirstOf (λ r. DropOf U r × (r.cell ≡ k)) (earlier_of x y)
+      first_here_more k x y p q =
+          first_same (λ r. (DropOf T r × (r.cell ≡ k)) ⊎ IsDropAt rs term a b k r) (λ r. DropOf U r × (r.cell ≡ k)) (earlier_of x y)
+          (λ t h. ⊎_elim (λ g. (joined t (inl g.0), g.1)) (λ g. (joined t (inr g.1), g.0)) h)
+          (λ t h. ⊎_elim (λ g. inl (g, h.1)) (λ g. inr (h.1, g)) (apart t h.0))
+          (first_of_both (λ r. DropOf T r × (r.cell ≡ k)) (IsDropAt rs term a b k) x y p q)
+
     below_or_same : (z : ℕ) → z < term + 1 → (z < term) ⊎ (z ≡ term)
     below_or_same z l = grind arith
 
-    this_below : term < term + 1
-    this_below = omega arith
-
-    joined : (t : Removal) → DropBelow term t ⊎ IsTermDrop rs term a b t → DropBelow (term + 1) t
-    unfolding to_drop
-    joined t (inl h) = (h.0, (let l = h.1 in omega (arith, l)))
-    joined t (inr h) = (to_drop t h, subst (λ z. z < term + 1) (sym h.refuting.of_term) this_below)
-
-    apart : (t : Removal) → DropBelow (term + 1) t → DropBelow term t ⊎ IsTermDrop rs term a b t
-    apart t h = ⊎_elim (λ l. inl (h.0, l)) (λ e. inr (from_drop t h.0 e)) (below_or_same h.0.refuted.require.term h.1)
+    below : (z : ℕ) → (z < term) ⊎ (z ≡ term) → z < term + 1
+    below z (inl l) = omega (arith, l)
+    below z (inr e) = omega (arith, e)
 
     pub first_below_more : (x y : Option Removal) (to : ℕ) → to ≡ cell_up_to x (length b) → IsFirstOf (DropBelow term) x →
         IsFirstOf (IsDropUpTo rs term a b to) y → IsFirstOf (DropBelow (term + 1)) (earlier_of x y)
-    first_below_more x y to is p q =
-        first_same (λ r. DropBelow term r ⊎ IsTermDrop rs term a b r) (DropBelow (term + 1)) (earlier_of x y) joined apart
-        (first_of_near (DropBelow term) (IsTermDrop rs term a b) (length b) (λ t h. h.usable.to) x y to is p q)
-
-    -- the same of the drops at one cell
-    pub first_here_more : (k : ℕ) (x y : Option Removal) → IsFirstOf (λ r. DropBelow term r × (r.cell ≡ k)) x → IsFirstOf (IsDropAt rs term a b k) y →
-        IsFirstOf (λ r. DropBelow (term + 1) r × (r.cell ≡ k)) (earlier_of x y)
-    first_here_more k x y p q =
-        first_same (λ r. (DropBelow term r × (r.cell ≡ k)) ⊎ IsDropAt rs term a b k r) (λ r. DropBelow (term + 1) r × (r.cell ≡ k)) (earlier_of x y)
-        (λ t h. ⊎_elim (λ g. (joined t (inl g.0), g.1)) (λ g. (joined t (inr g.1), g.0)) h)
-        (λ t h. ⊎_elim (λ g. inl (g, h.1)) (λ g. inr (h.1, g)) (apart t h.0))
-        (first_of_both (λ r. DropBelow term r × (r.cell ≡ k)) (IsDropAt rs term a b k) x y p q)
+    first_below_more = first_more (λ z. z < term) (λ z. z < term + 1) below below_or_same
 
   -- it is by a requirement of some term
   pub term_there : (n : ℕ) → AllByRecursion (λ (r : Require). r.term < n) rs → (t : Removal) → (d : MayDrop rs (spans_of ms) b t) →
@@ -279,11 +290,10 @@ module _ (rs : List Require) (ms : List Automata) (b : Box) where
   first_of_all last n x each l p =
       first_same (DropBelow last) (MayDrop rs (spans_of ms) b) x (λ t h. h.0) (λ t d. (d, (let m = term_there n each t d in omega (arith, m, l)))) p
 
-  pub first_of_all_here : (last n k : ℕ) (x : Option Removal) → AllByRecursion (λ (r : Require). r.term < n) rs → n ≤ last →
-      IsFirstOf (λ r. DropBelow last r × (r.cell ≡ k)) x → IsFirstOf (λ r. MayDrop rs (spans_of ms) b r × (r.cell ≡ k)) x
-  first_of_all_here last n k x each l p =
-      first_same (λ r. DropBelow last r × (r.cell ≡ k)) (λ r. MayDrop rs (spans_of ms) b r × (r.cell ≡ k)) x (λ t h. (h.0.0, h.1))
-      (λ t d. ((d.0, (let m = term_there n each t d.0 in omega (arith, m, l))), d.1)) p
+  pub first_of_all_here : (T : ℕ → Type 0) → ((t : Removal) (d : MayDrop rs (spans_of ms) b t) → T d.refuted.require.term) → (k : ℕ) (x : Option Removal) →
+      IsFirstOf (λ r. DropOf T r × (r.cell ≡ k)) x → IsFirstOf (λ r. MayDrop rs (spans_of ms) b r × (r.cell ≡ k)) x
+  first_of_all_here T all k x p =
+      first_same (λ r. DropOf T r × (r.cell ≡ k)) (λ r. MayDrop rs (spans_of ms) b r × (r.cell ≡ k)) x (λ t h. (h.0.0, h.1)) (λ t d. ((d.0, all t d.0), d.1)) p
 
 -- the machine of a term, as the code reads it from the list
 pub machine_there : (machines : List Machine) (term : ℕ) (m : Machine) → term < length machines → m ≡ get_or machines term m →
@@ -296,12 +306,6 @@ pub machine_looks : (b : Box) (machines : List Machine) (term : ℕ) (m : Machin
 machine_looks b [] term m h l e = absurd (omega (arith, l))
 machine_looks b (x ∷ machines) zero m h l e = subst (λ z. LooksIn (automata_of z) b) (sym e) h.0
 machine_looks b (x ∷ machines) (suc term) m h l e = machine_looks b machines term m h.1 (omega (arith, l)) e
-
--- what is refuted by the requirements of a term, as the code holds them
-pub refuted_of : (own : TermRequirements) (rs : List Require) (term : ℕ) (a : Automata) (b : Box) (outside : Option ℕ) → own.all.now ≡ rs → own.term ≡ term →
-    IsRefutedOutside own.all.now own.term a b outside → IsRefutedOutside rs term a b outside
-refuted_of own rs term a b outside is_all is_term h =
-    subst (λ z. IsRefutedOutside rs z a b outside) is_term (subst (λ z. IsRefutedOutside z own.term a b outside) is_all h)
 
 -- a cell with one value has none
 pub no_drop_of_one : (rs : List Require) (term : ℕ) (a : Automata) (b : Box) (k : ℕ) → length (values_at k b) ≡ 1 → IsFirstOf (IsDropAt rs term a b k) None

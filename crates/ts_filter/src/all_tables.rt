@@ -20,7 +20,7 @@ ghost use Rattle.ts_filter.specs.declared.bar.Bar.TheVariants.{Better};
 
 use crate::bar::Bar;
 use crate::box_tables::BoxTables;
-use crate::courses::{Course, first_by_cells};
+use crate::courses::{TermCourse, first_by_cells};
 use crate::drops::Removal;
 use crate::held_machine::HeldMachine;
 use crate::kept_cells::KeptCells;
@@ -46,7 +46,7 @@ pub struct AllTables<'a> {
     pub(crate) keeps: bool,
     seen: Vec<Domain>,
     others: Others,
-    courses: Vec<Course>,
+    courses: Vec<TermCourse>,
 }
 
 impl<'a> Model for AllTables<'a> {

@@ -1,11 +1,12 @@
 //! Drops that are looked for cell by cell: at each cell in turn every term is asked that may have one there.
 
-ghost use Rattle.std.specs.Prelude.{◌≡◌, ◌⊎◌, ◌<◌, ◌≤◌, ℕ, IfOk, None, OnOk, false, length, option_map};
+ghost use Rattle.std.specs.Prelude.{◌≡◌, ◌⊎◌, ◌<◌, ◌≤◌, ℕ, IfOk, IsTrue, None, OnOk, false, length, option_map};
 ghost use Rattle.std.specs.List.{AllByRecursion};
 ghost use Rattle.ts_base.specs.Limits.{too_many};
 ghost use Rattle.ts_bound.specs.TermSpans.{LooksIn};
 ghost use Rattle.ts_filter.specs.Boxes.{HasCell};
-ghost use Rattle.ts_filter.specs.Courses.{AllFrom, AreAsked, AreCourses, ArePassed, IsCourse, IsPassed, IsStep, past_all};
+ghost use Rattle.ts_filter.specs.Courses.{AllFrom, AreAsked, AreCourses, ArePassed, HasCourse, IsCourse, IsPassed};
+ghost use Rattle.ts_filter.specs.Courses.{IsStep, past_all};
 ghost use Rattle.ts_filter.specs.Drops.{IsFirstDrop};
 ghost use Rattle.ts_filter.specs.KeptCells.{AreKept};
 ghost use Rattle.ts_filter.specs.MachineSpans.{spans_of};
@@ -34,6 +35,13 @@ pub(crate) struct Course {
     pub(crate) before: u32,
     pub(crate) last: u32,
     pub(crate) outside: Option<u32>,
+}
+
+/// The course of a term that requirements name.
+#[derive(Clone, Copy)]
+pub(crate) struct TermCourse {
+    pub(crate) term: u32,
+    pub(crate) course: Course,
 }
 
 /// The first drop at the next cell of a course, and where drops may still be: at that cell too, if there is one.
@@ -88,17 +96,16 @@ fn is_asked(kept: Option<&KeptTerm>, k: u32, cells: &Boxed) -> bool
 }
 
 /// The possible drop with the least cell, then the least value, then the least requirement; none exactly where none is
-/// possible. `courses` has memory for one course of each term.
+/// possible. `courses` has memory for one course of each term that is named.
 pub(crate) fn first_by_cells<S: Spares>(
     alloc: Global,
     each: &mut Vec<BoxTables<'_>>,
-    courses: &mut Vec<Course>,
+    courses: &mut Vec<TermCourse>,
     requirements: &[Require],
     kept: &KeptCells,
     spares: &S,
     cells: &Boxed,
 ) -> Result<Option<Removal>, Memory>
-    requires machines { length each.old.items < too_many }
     requires requirements { length requirements.now < too_many }
     requires terms { AllByRecursion (λ r. r.term < length (machines_of each.old.items)) requirements.now }
     requires looks { AllByRecursion (λ a. LooksIn a cells.now.present) (machines_of each.old.items) }
@@ -132,17 +139,17 @@ pub(crate) fn first_by_cells<S: Spares>(
     Ok(None)
 }
 
-/// Where the drops of each term may be.
+/// Where drops may be, of each term that a requirement names: others have none.
 fn begin_all(
     alloc: Global,
     each: &mut Vec<BoxTables<'_>>,
-    courses: &mut Vec<Course>,
+    courses: &mut Vec<TermCourse>,
     requirements: &[Require],
     kept: &KeptCells,
     cells: &Boxed,
 ) -> Result<(), Memory>
-    requires machines { length each.old.items < too_many }
     requires requirements { length requirements.now < too_many }
+    requires terms { AllByRecursion (λ r. r.term < length (machines_of each.old.items)) requirements.now }
     requires looks { AllByRecursion (λ a. LooksIn a cells.now.present) (machines_of each.old.items) }
     requires kept { AreKept requirements.now (spans_of (machines_of each.old.items)) cells.now.present kept.now }
     requires known { AreRowsOfEach cells.now.present each.old.items }
@@ -152,12 +159,30 @@ fn begin_all(
         requirements.now (machines_of each.old.items) cells.now.present courses.new.items) }
 {
     courses.clear();
-    for term in 0..each.len() {
-        let t = term as u32;
-        let course = course_of_term(alloc, each, t, requirements, kept, cells)?;
-        courses.push(course)?;
+    for at in 0..requirements.len() {
+        let r = &requirements[at];
+        if has_course(courses.as_slice(), r.term) {
+            continue;
+        }
+        let course = course_of_term(alloc, each, r.term, requirements, kept, cells)?;
+        courses.push(TermCourse {
+            term: r.term,
+            course,
+        })?;
     }
     Ok(())
+}
+
+/// Whether one of the courses is that of the term.
+fn has_course(courses: &[TermCourse], term: u32) -> bool
+    ensures { IsTrue result → HasCourse courses.now term }
+{
+    for i in 0..courses.len() {
+        if courses[i].term == term {
+            return true;
+        }
+    }
+    false
 }
 
 /// Where the drops of a term may be.
@@ -186,13 +211,13 @@ fn course_of_term(
 }
 
 /// How many cells come at least before the next one of each course.
-fn least_before(courses: &[Course]) -> u32
+fn least_before(courses: &[TermCourse]) -> u32
     ensures least { AllFrom result courses.now }
     ensures greatest { (m : ℕ) → m ≤ past_all → AllFrom m courses.now → m ≤ result }
 {
     let mut least = PAST_ALL;
     for i in 0..courses.len() {
-        least = least.min(courses[i].before);
+        least = least.min(courses[i].course.before);
     }
     least
 }
@@ -203,15 +228,13 @@ fn drops_at<S: Spares>(
     alloc: Global,
     before: u32,
     each: &mut Vec<BoxTables<'_>>,
-    courses: &mut Vec<Course>,
+    courses: &mut Vec<TermCourse>,
     requirements: &[Require],
     kept: &KeptCells,
     spares: &S,
     cells: &Boxed,
 ) -> Result<Option<Removal>, Memory>
-    requires machines { length each.old.items < too_many }
     requires requirements { length requirements.now < too_many }
-    requires terms { AllByRecursion (λ r. r.term < length (machines_of each.old.items)) requirements.now }
     requires looks { AllByRecursion (λ a. LooksIn a cells.now.present) (machines_of each.old.items) }
     requires kept { AreKept requirements.now (spans_of (machines_of each.old.items)) cells.now.present kept.now }
     requires spares { S.knows requirements.now (spans_of (machines_of each.old.items)) cells.now.present spares.now }
@@ -225,14 +248,18 @@ fn drops_at<S: Spares>(
         requirements.now (machines_of each.old.items) cells.now.present before courses.new.items) }
 {
     let mut first = None;
-    for term in 0..each.len() {
-        let course = courses[term];
-        if course.before != before {
+    for i in 0..courses.len() {
+        let next = courses[i];
+        if next.course.before != before {
             continue;
         }
-        let t = term as u32;
-        let step = step_of_term(alloc, each, t, course, requirements, kept, spares, cells)?;
-        courses[term] = step.course;
+        let term = next.term;
+        let course = next.course;
+        let step = step_of_term(alloc, each, term, course, requirements, kept, spares, cells)?;
+        courses[i] = TermCourse {
+            term,
+            course: step.course,
+        };
         first = earlier(first, step.found);
     }
     Ok(first)

@@ -1,14 +1,12 @@
-use Rattle.std.proofs.Common.{◌+◌, ◌<◌, ◌∙◌, length, rules, subst, sym, arith}
+use Rattle.std.proofs.Common.{◌+◌, ◌∙◌, rules, subst, sym, arith}
 use Rattle.std.specs.List.{AllByRecursion}
 use Rattle.std.specs.Prelude.{IsSome}
 use Rattle.ts_bound.specs.TermSpans.{LooksIn}
-use Rattle.ts_model.specs.declared.model.Require.{Require}
 use Rattle.ts_filter.specs.Courses.{AllFrom, AreAsked, AreCourses}
 use Rattle.ts_filter.specs.KeptCells.{AreKept}
 use Rattle.ts_filter.specs.MachineSpans.{spans_of}
 use Rattle.ts_filter.specs.Tables.{machines_of}
 use Rattle.ts_filter.proofs.CourseLaws.{drops_after, first_found, none_found, not_some}
-use Rattle.ts_filter.proofs.MeetingLaws.{as_many}
 use Rattle.ts_filter.proofs.courses.first_by_cells.Goals as goal
 
 pub loop-before-init : goal.loop-before-init
@@ -18,15 +16,6 @@ loop-before-init g c = record {
   courses = c.in_ok-begin_all.ensures.courses;
   from = subst (AllFrom c.least_before-before.result) c.as_slice.ensures.value c.least_before-before.ensures.least;
 }
-
-pub drops_at-requires-clause-machines : goal.drops_at-requires-clause-machines
-drops_at-requires-clause-machines g c =
-    let long = as_many c.args.each.now.items c.loop-before.each.items c.loop-before.invariant.machines in let few = c.requires.machines in
-    omega (arith, long, few)
-
-pub drops_at-requires-clause-terms : goal.drops_at-requires-clause-terms
-drops_at-requires-clause-terms g c =
-    subst (λ l. AllByRecursion (λ (r : Require). r.term < length l) c.args.requirements.now) (sym c.loop-before.invariant.machines) c.requires.terms
 
 pub drops_at-requires-clause-looks : goal.drops_at-requires-clause-looks
 drops_at-requires-clause-looks g c =
@@ -72,11 +61,11 @@ returns-then-is_some-clause-found g c =
     let some : IsSome c.in_ok-found.found = search rules in let before = c.loop-before.before in let h = c.loop-before.invariant in
     let asked = subst (λ l. AreAsked rs l b before c.drops_at.new.courses.items c.in_ok-found.found) h.machines c.in_ok-found.ensures.asked in
     first_found rs ms b before c.in_ok-found.found
-    (λ t d. drops_after rs ms b before c.loop-before.courses.items c.requires.looks c.requires.terms h.courses h.from t d) some asked.first
+    (λ t d. drops_after rs ms b before c.loop-before.courses.items c.requires.looks h.courses h.from t d) some asked.first
 
 pub returns-clause-found : goal.returns-clause-found
 returns-clause-found g c =
     let rs = c.args.requirements.now in let ms = machines_of c.args.each.now.items in let b = c.args.cells.now.present in
     let before = c.loop-before.before in let h = c.loop-before.invariant in let over = c.loop-before-test.false in let count = c.cells-count.ensures.count in
-    none_found rs ms b before (λ t d. drops_after rs ms b before c.loop-before.courses.items c.requires.looks c.requires.terms h.courses h.from t d)
+    none_found rs ms b before (λ t d. drops_after rs ms b before c.loop-before.courses.items c.requires.looks h.courses h.from t d)
     (omega (arith, over, count))

@@ -1,4 +1,4 @@
-use Rattle.std.proofs.Common.{◌<◌, ◌∙◌, length, ap, subst, sym, arith}
+use Rattle.std.proofs.Common.{◌<◌, ◌∙◌, length, ap, subst, sym}
 use Rattle.std.specs.List.{AllByRecursion}
 use Rattle.std.specs.Prelude.{IfOk}
 use Rattle.ts_bound.specs.TermSpans.{LooksIn}
@@ -8,12 +8,7 @@ use Rattle.ts_filter.specs.Drops.{IsFirstDrop}
 use Rattle.ts_filter.specs.KeptCells.{AreKept}
 use Rattle.ts_filter.specs.MachineSpans.{spans_of}
 use Rattle.ts_filter.specs.Tables.{AreRowsOfEach, Tables}
-use Rattle.ts_filter.proofs.TermsAsked.{machines_long}
 use Rattle.ts_filter.proofs.all_tables.AllTables.next_drop.Goals as goal
-
-pub first_by_cells-requires-clause-machines : goal.first_by_cells-requires-clause-machines
-first_by_cells-requires-clause-machines g c =
-    let long = machines_long c.self.inside.each.items c.self.view_is in let few = c.requires.machines in omega (arith, long, few)
 
 pub first_by_cells-requires-clause-terms : goal.first_by_cells-requires-clause-terms
 first_by_cells-requires-clause-terms g c =
