@@ -91,33 +91,10 @@ pub record IsRowOf (a : Body) (before : List (List ℤ)) (values : List ℤ) (ro
   pub width : a.wide ≡ has_wide (lanes_of row)
   pub packed : IsPackedRow (lanes_of row) a before values (columns row)
 
--- the hull of the glued spans at the value x of place i, of a row of one form and of another row of the same form
-abbrev pub glued_narrow : Pair → Columns 6 → AnyRow → ℕ → ℤ → ℕ → Span
-glued_narrow p left (Narrow right) i x cells = glued_hull 6 p left right i x cells
-glued_narrow p left (Upper right) i x cells = none_span
-glued_narrow p left (Lower right) i x cells = none_span
-glued_narrow p left (Wide right) i x cells = none_span
-
-abbrev pub glued_upper : Pair → Columns 3 → AnyRow → ℕ → ℤ → ℕ → Span
-glued_upper p left (Narrow right) i x cells = none_span
-glued_upper p left (Upper right) i x cells = glued_hull 3 p left right i x cells
-glued_upper p left (Lower right) i x cells = none_span
-glued_upper p left (Wide right) i x cells = none_span
-
-abbrev pub glued_lower : Pair → Columns 4 → AnyRow → ℕ → ℤ → ℕ → Span
-glued_lower p left (Narrow right) i x cells = none_span
-glued_lower p left (Upper right) i x cells = none_span
-glued_lower p left (Lower right) i x cells = glued_hull 4 p left right i x cells
-glued_lower p left (Wide right) i x cells = none_span
-
-abbrev pub glued_wide : Pair → Columns 10 → AnyRow → ℕ → ℤ → ℕ → Span
-glued_wide p left (Narrow right) i x cells = none_span
-glued_wide p left (Upper right) i x cells = none_span
-glued_wide p left (Lower right) i x cells = none_span
-glued_wide p left (Wide right) i x cells = glued_hull 10 p left right i x cells
-
+-- the hull of the glued spans at the value x of place i, of two rows of one form; rows of two forms have none
 abbrev pub glued_between : Pair → AnyRow → AnyRow → ℕ → ℤ → ℕ → Span
-glued_between p (Narrow left) right i x cells = glued_narrow p left right i x cells
-glued_between p (Upper left) right i x cells = glued_upper p left right i x cells
-glued_between p (Lower left) right i x cells = glued_lower p left right i x cells
-glued_between p (Wide left) right i x cells = glued_wide p left right i x cells
+glued_between p (Narrow left) (Narrow right) i x cells = glued_hull 6 p left right i x cells
+glued_between p (Upper left) (Upper right) i x cells = glued_hull 3 p left right i x cells
+glued_between p (Lower left) (Lower right) i x cells = glued_hull 4 p left right i x cells
+glued_between p (Wide left) (Wide right) i x cells = glued_hull 10 p left right i x cells
+glued_between p left right i x cells = none_span
