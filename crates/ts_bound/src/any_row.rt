@@ -6,7 +6,18 @@ ghost use Rattle.std.specs.Prelude.{◌≡◌, ◌+◌, ◌≤◌, ℤ, pos, get
 ghost use Rattle.ts_automaton.specs.AutomatonRun.{AreCellValues};
 ghost use Rattle.ts_base.specs.Limits.{IsCellValue};
 ghost use Rattle.ts_base.specs.Spans.{none_span, span_hull};
-ghost use Rattle.ts_bound.specs.AnyRows.{IsFormOf, IsRowOf, columns, form_of, glued_between, lanes_of, row_part, row_without, viewed};
+ghost use Rattle.ts_bound.specs.AnyRows.{
+  IsFormOf,
+  IsRowOf,
+  columns,
+  form_of,
+  form_sides,
+  glued_between,
+  lanes_of,
+  row_part,
+  row_without,
+  viewed,
+};
 ghost use Rattle.ts_glue.specs.Pairs.{Pair};
 ghost use Rattle.ts_meet.specs.Along.{finish_along, hull_over};
 ghost use Rattle.ts_meet.specs.Asked.{IsAnswer};
@@ -16,6 +27,7 @@ ghost use Rattle.ts_meet.specs.Settled.{Between, HavePlaces};
 ghost use Rattle.ts_row.specs.Plans.{IsPlanOf};
 ghost use Rattle.ts_row.specs.Rows.{IsRow};
 ghost use Rattle.ts_row.specs.Takings.{count_in};
+ghost use Rattle.ts_sweep.specs.Sides.{BothEnds};
 
 use crate::packed_rows::{first_packed_row, next_packed_row};
 use crate::same_rows::are_same_columns;
@@ -34,6 +46,16 @@ pub enum Form {
     Upper,
     Lower,
     Wide,
+}
+
+impl Form {
+    /// The form with both ends of the registers of automata of this width.
+    pub fn whole(wide: bool) -> Form
+        ensures width { IsFormOf wide result }
+        ensures both { form_sides result ≡ BothEnds }
+    {
+        if wide { Form::Wide } else { Form::Narrow }
+    }
 }
 
 /// A packed row, in one of the forms.

@@ -82,7 +82,7 @@ fn all_rows(alloc: Global, a: &Automaton, reading: Reading<'_>) -> Result<RowSta
     ensures all { IfOk result (λ s. length (cells_read reading.entry) ≤ length s.known) }
     ensures both { IfOk result (λ s. form_sides s.planned.form ≡ BothEnds) }
 {
-    let form = if a.wide() { Form::Wide } else { Form::Narrow };
+    let form = Form::whole(a.wide());
     let mut rows = RowStack::new(alloc, a, form);
     make_rows(alloc, &mut rows, a, reading, reading.count())?;
     Ok(rows)

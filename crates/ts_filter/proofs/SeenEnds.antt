@@ -251,3 +251,8 @@ alike_self (Compares op bound) s = (λ h. h, λ h. h)
 alike_self (MeetsEach own) s = λ r there of_term. (λ h. h, λ h. h)
 alike_self (Counts goal bar) s = (λ h. h, λ h. h)
 alike_self (Ranks goal) s = refl
+
+-- both ends are enough for any question
+pub both_serve : (ends : Sides) (mark : Mark) (n : ℕ) (asked : Question) → ends ≡ BothEnds → IsServed ends mark n asked
+both_serve ends mark n asked is =
+    subst (λ z. IsServed z mark n asked) (sym is) (λ s u. alike_self asked (span_hull u (marked_span mark n s)))

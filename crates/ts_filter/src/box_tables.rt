@@ -98,7 +98,7 @@ impl<'a> BoxTables<'a> {
         let m = machine.get();
         // the tables keep the rules of the automata, so that no question has to ask for them
         machine_is_whole(m);
-        let form = whole_form(m);
+        let form = Form::whole(m.forward().wide());
         let ahead = RowStack::new(alloc, m.forward(), form);
         let behind = rows_behind(alloc, m, form);
         let joints = joints_of(m);
@@ -333,13 +333,14 @@ impl<'a> BoxTables<'a> {
             (count_looked self.now.machine.window (length cells.now.present)) asked.entry }
     {
         let m = self.machine.get();
+        let whole = Form::whole(m.forward().wide());
         if m.forward().wide() {
-            return Form::Wide;
+            return whole;
         }
         let n = looked_count(m.window(), cells.cells());
         let form = enough_form(asked, m.forward().mark(), n);
         if self.asked && form != self.ahead.form() {
-            Form::Narrow
+            whole
         } else {
             form
         }
@@ -441,17 +442,6 @@ impl<'a> BoxTables<'a> {
             Some(reverse) => make_rows(alloc, &mut self.behind, reverse, reading, count),
             None => unreachable!(),
         }
-    }
-}
-
-/// The form of rows with both ends.
-fn whole_form(m: &Machine) -> Form
-    ensures { IsFormOf (forward_of m.now).wide result }
-{
-    if m.forward().wide() {
-        Form::Wide
-    } else {
-        Form::Narrow
     }
 }
 

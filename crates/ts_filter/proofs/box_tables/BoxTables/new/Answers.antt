@@ -17,7 +17,7 @@ invariant_of-result c =
       subst (λ (m : Machine). AreTables (automata_of m) ahead behind c.joints_of-joints.result) c.get-m.ensures
           (record {
             whole = c.machine_is_whole.ensures;
-            forward = subst (λ (b : Body). IsPlanned b ahead) c.forward.ensures c.new-ahead.ensures.planned;
+            forward = subst (λ (b : Body). IsPlanned b ahead) c.forward-2.ensures c.new-ahead.ensures.planned;
             reverse = c.rows_behind-behind.ensures.planned;
             form = c.rows_behind-behind.ensures.form ∙ sym c.new-ahead.ensures.form;
             meets = c.joints_of-joints.ensures;
