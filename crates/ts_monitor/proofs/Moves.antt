@@ -1,10 +1,10 @@
 -- All automata make the move of two neighbours, one place after the other.
-use Rattle.std.proofs.Common.{set, ◌≡◌, ℕ, zero, suc, ◌+◌, ◌<◌, ℤ, Some, None, List, [], ◌∷◌, ◌++◌, length, take, drop, map, refl, sym, ◌∙◌, ap, subst, arith, append_assoc, get_or}
+use Rattle.std.proofs.Common.{set, ◌≡◌, ℕ, zero, suc, ◌+◌, ◌<◌, ℤ, Some, List, [], ◌∷◌, ◌++◌, length, take, drop, map, refl, sym, ◌∙◌, ap, subst, arith, append_assoc, get_or}
 use Rattle.std.specs.Prelude.{slice_get, IsTrue}
 use Rattle.ts_base.specs.declared.ext.Ext.{Ext}
 use Rattle.ts_automaton.specs.Body.{Body}
 use Rattle.ts_automaton.specs.Typing.{is_automaton}
-use Rattle.ts_automaton.specs.AutomatonRun.{Standing, Stands, start_of, step_of, after}
+use Rattle.ts_automaton.specs.AutomatonRun.{Standing, Stands, start_of, step_of}
 use Rattle.ts_automaton.proofs.RunLaws.{kinds_are_kept}
 use Rattle.ts_automaton.specs.declared.regs.At.{At}
 use Rattle.ts_automaton.specs.AutomatonRun.{standing_of}
@@ -15,7 +15,7 @@ use Rattle.std.proofs.lemmas.List.{length-map, map-append, map-set}
 use Rattle.std.proofs.lemmas.Option.{slice_get_read}
 use Rattle.ts_compile.specs.Compiled.{HaveBodies, machine_body}
 use Rattle.ts_compile.proofs.Tables.{body_automaton}
-use Rattle.ts_monitor.specs.Monitors.{AllStand, moved, moved_after, standings_after}
+use Rattle.ts_monitor.specs.Monitors.{AllStand, moved, moved_after}
 
 -- the first k have moved, the others stand where they stood
 abbrev pub moved_to : ℕ → List Body → List (Standing Ext) → ℤ → ℤ → List (Standing Ext)

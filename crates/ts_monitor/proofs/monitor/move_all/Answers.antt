@@ -1,4 +1,4 @@
-use Rattle.std.proofs.Common.{◌≡◌, ◌<◌, ◌≤◌, ℤ, map, arith, refl, ◌∙◌, ap, sym, subst}
+use Rattle.std.proofs.Common.{map, arith, refl, ◌∙◌, ap, sym, subst}
 use mir.Val.{of_z, to_z}
 use mir.Syntax.{w64}
 use Rattle.ts_monitor.proofs.Readings.{as_passed}

@@ -1,8 +1,6 @@
-use Rattle.std.proofs.Common.{◌≡◌, ◌++◌, ◌∷◌, [], map, ap, sym, ◌∙◌, subst, drop, refl}
+use Rattle.std.proofs.Common.{ap, ◌∙◌, refl}
 use Rattle.std.proofs.lemmas.Option.{slice_get_read}
-use Rattle.std.proofs.lemmas.List.{map-append}
-use Rattle.ts_automaton.specs.AutomatonRun.{standing_of, start_of}
-use Rattle.ts_glue.specs.Machines.{forward_of}
+use Rattle.ts_automaton.specs.AutomatonRun.{start_of}
 use Rattle.ts_monitor.proofs.Moves.{start_taken}
 use Rattle.ts_monitor.proofs.monitor.starts.Goals as goal
 

@@ -1,6 +1,6 @@
-use Rattle.std.proofs.Common.{◌≡◌, ◌≤◌, map, ap, sym, subst, ◌∙◌, arith}
+use Rattle.std.proofs.Common.{map, ap, sym, subst, ◌∙◌, arith}
 use Rattle.std.proofs.lemmas.Int.{ints}
-use Rattle.ts_automaton.specs.AutomatonRun.{standing_of, start_of}
+use Rattle.ts_automaton.specs.AutomatonRun.{start_of}
 use Rattle.ts_glue.specs.Machines.{forward_of}
 use Rattle.ts_compile.specs.Compiled.{machine_body}
 use Rattle.ts_monitor.specs.Monitors.{AllStand}

@@ -1,4 +1,4 @@
-use Rattle.std.proofs.Common.{◌≡◌, ◌≤◌, ◌+◌, map, ap, sym, subst, ◌∙◌, arith, refl}
+use Rattle.std.proofs.Common.{◌≡◌, ◌+◌, map, ap, sym, subst, ◌∙◌, arith}
 use mir.Val.{of_z, to_z}
 use mir.Syntax.{w64}
 use Rattle.ts_base.specs.Limits.{IsCellValue}
