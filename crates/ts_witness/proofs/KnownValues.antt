@@ -1,6 +1,7 @@
 -- What is known of the values at each place, wherever the runs have come to the same, and as more values are tried.
-use Rattle.std.proofs.Common.{◌≡◌, ◌⊎◌, inl, inr, ⊎_elim, ℕ, zero, suc, ◌+◌, ◌-◌, ◌<◌, ◌≤◌, ℤ, ◌<ℤ◌, ◌≤ℤ◌, Bool, true, false, List, [], ◌∷◌, length, set, get_or, replicate, reverse, Option, Some, None, slice_get, refl, sym, ◌∙◌, ap, subst, arith}
+use Rattle.std.proofs.Common.{◌≡◌, ◌⊎◌, inl, inr, ⊎_elim, ℕ, zero, suc, ◌-◌, ◌<◌, ◌≤◌, ℤ, ◌<ℤ◌, ◌≤ℤ◌, Bool, true, false, List, [], ◌∷◌, length, set, get_or, replicate, reverse, drop, Option, Some, None, slice_get, refl, sym, ◌∙◌, ap, subst, arith}
 use Rattle.std.specs.Prelude.{Contains, IfSome, IsSome, IsTrue}
+use Rattle.std.specs.List.{AllByRecursion}
 use Rattle.std.proofs.lemmas.Int.{ints}
 use Rattle.std.proofs.lemmas.List.{length-set}
 use Rattle.std.proofs.lemmas.Option.{same_Some, slice_get-get_or}
@@ -10,7 +11,7 @@ use Rattle.ts_automaton.specs.Body.{Body}
 use Rattle.ts_automaton.specs.AutomatonRun.{AreCellValues, answer}
 use Rattle.ts_domain.specs.BoxSeries.{IsBox}
 use Rattle.ts_domain.specs.Values.{IsDomain, IsRising, WithinLimits}
-use Rattle.ts_domain.proofs.Sets.{each_contains}
+use Rattle.ts_domain.proofs.Sets.{contains_cons, each_contains, nothing_in}
 use Rattle.ts_domain.proofs.MarkedSets.{at_contains}
 use Rattle.ts_filter.proofs.BoxParts.{domain_at}
 use Rattle.ts_glue.specs.declared.machine.Machine.{Machine}
@@ -226,55 +227,78 @@ liked b r y i (Some u) letters v h reads meets = (reads h.0, subst (MeetsWith b 
 
 -- the values of a domain are tried one after the other
 
-rising_apart : (d : List ℤ) (i j : ℕ) (u v : ℤ) → IsRising d → slice_get d i ≡ Some u → slice_get d j ≡ Some v → i < j → u <ℤ v
-unfolding IsRising
-rising_apart [] i j u v rise at there l = absurd (let z : ◌≡◌ {A = Option ℤ} None (Some u) = at in cc)
-rising_apart (x ∷ d) i zero u v rise at there l = absurd (omega (arith, l))
-rising_apart (x ∷ d) zero (suc j) u v rise at there l =
-    let e : x ≡ u = same_Some x u at in let lt = each_contains (λ y. x <ℤ y) d v rise.0 (at_contains d j v there) in omega (arith, ints, e, lt)
-rising_apart (x ∷ d) (suc i) (suc j) u v rise at there l = rising_apart d i j u v rise.1 at there (omega (arith, l))
+-- with each value from `low` on the series meets, but for those of a rising list that are still to be tried
+pub record AreTried (b : Body) (r : Require) (y : List ℤ) (k : ℕ) (values : List ℤ) (low : ℤ) (rest : List ℤ) : Type 0 where
+  pub rising : IsRising rest
+  pub within : AllByRecursion WithinLimits rest
+  pub met : (v : ℤ) → Contains values v → low ≤ℤ v → Contains rest v ⊎ MeetsWith b r y k v
 
-order : (p i : ℕ) → (p < i) ⊎ ((p ≡ i) ⊎ (i < p))
-order zero zero = inr (inl refl)
-order zero (suc i) = inl (omega arith)
-order (suc p) zero = inr (inr (omega arith))
-order (suc p) (suc i) =
-    ⊎_elim (λ l. inl (omega (arith, l))) (λ o. inr (⊎_elim (λ e. inl (ap suc e)) (λ l. inr (omega (arith, l))) o)) (order p i)
+rising_drop : (n : ℕ) (d : List ℤ) → IsRising d → IsRising (drop n d)
+unfolding IsRising
+rising_drop zero d rise = rise
+rising_drop (suc n) [] rise = tt
+rising_drop (suc n) (x ∷ d) rise = rising_drop n d rise.1
+
+within_drop : (n : ℕ) (d : List ℤ) → AllByRecursion WithinLimits d → AllByRecursion WithinLimits (drop n d)
+within_drop zero d all = all
+within_drop (suc n) [] all = tt
+within_drop (suc n) (x ∷ d) all = within_drop n d all.1
+
+above_drop : (n : ℕ) (d : List ℤ) (low v : ℤ) → IsRising d → slice_get d n ≡ Some low → Contains d v → low ≤ℤ v → Contains (drop n d) v
+unfolding IsRising
+above_drop zero d low v rise at has up = has
+above_drop (suc n) [] low v rise at has up = absurd (nothing_in v has)
+above_drop (suc n) (x ∷ d) low v rise at has up = elim ((contains_cons x d v).0 has) [
+  | inl e ↦ let lt = each_contains (λ y. x <ℤ y) d low rise.0 (at_contains d n low at) in absurd (omega (arith, ints, e, lt, up))
+  | inr there ↦ above_drop n d low v rise.1 at there up
+]
+
+least_first : (x : ℤ) (d : List ℤ) (v : ℤ) → IsRising (x ∷ d) → Contains (x ∷ d) v → x ≤ℤ v
+unfolding IsRising
+least_first x d v rise has = elim ((contains_cons x d v).0 has) [
+  | inl e ↦ omega (arith, ints, e)
+  | inr there ↦ let lt = each_contains (λ y. x <ℤ y) d v rise.0 there in omega (arith, ints, lt)
+]
+
+rising_tail : (x : ℤ) (d : List ℤ) → IsRising (x ∷ d) → IsRising d
+unfolding IsRising
+rising_tail x d rise = rise.1
 
 module _ (b : Body) (r : Require) (y : List ℤ) (k : ℕ) (values : List ℤ) (low : ℤ) where
-  -- with those from `low` on below a place
-  abbrev pub AreTried : ℕ → Type 0
-  AreTried i = (j : ℕ) (v : ℤ) → j < i → slice_get values j ≡ Some v → low ≤ℤ v → MeetsWith b r y k v
+  pub none_tried : (n : ℕ) (rest : List ℤ) → IsDomain values → slice_get values n ≡ Some low → rest ≡ drop n values →
+      AreTried b r y k values low rest
+  none_tried n rest domain at is =
+      subst (AreTried b r y k values low) (sym is) (record {
+        rising = rising_drop n values domain.rising;
+        within = within_drop n values domain.within;
+        met = λ v has up. inl (above_drop n values low v domain.rising at has up);
+      })
 
-  pub none_tried : (from : ℕ) → IsRising values → slice_get values from ≡ Some low → AreTried from
-  none_tried from rise at j v below there up =
-      let lt = rising_apart values j from v low rise there at below in absurd (omega (arith, ints, lt, up))
+  module _ (all : List ℤ) (x : ℤ) (rest : List ℤ) (steps : all ≡ x ∷ rest) (tried : AreTried b r y k values low all) where
+    here : AreTried b r y k values low (x ∷ rest)
+    here = subst (AreTried b r y k values low) steps tried
 
-  pub one_tried : (i : ℕ) (u : ℤ) → AreTried i → slice_get values i ≡ Some u → MeetsWith b r y k u → AreTried (i + 1)
-  one_tried i u h at meets j v below there up =
-      ⊎_elim (λ l. h j v l there up)
-      (λ o. ⊎_elim (λ e. subst (MeetsWith b r y k) (same_Some u v (sym at ∙ ap (slice_get values) (sym e) ∙ there)) meets)
-      (λ l. absurd (omega (arith, l, below))) o)
-      (order j i)
+    pub next_within : WithinLimits x
+    next_within = here.within.0
 
-  place : (v : ℤ) → Contains values v → (p : ℕ) × (p < length values) × (slice_get values p ≡ Some v)
-  place v (p, below, e) = (p, below, slice_get-get_or values p v below ∙ ap Some e)
+    pub one_tried : MeetsWith b r y k x → AreTried b r y k values low rest
+    one_tried meets = record {
+      rising = rising_tail x rest here.rising;
+      within = here.within.1;
+      met = λ v has up. elim (here.met v has up) [
+        | inl there ↦ elim ((contains_cons x rest v).0 there) [ inl e ↦ inr (subst (MeetsWith b r y k) e meets) | inr later ↦ inl later ]
+        | inr told ↦ inr told
+      ];
+    }
 
-  pub tried_to : (i : ℕ) (u high : ℤ) → IsRising values → AreTried i → slice_get values i ≡ Some u → high <ℤ u →
-      (v : ℤ) → Contains values v → low ≤ℤ v → v ≤ℤ high → MeetsWith b r y k v
-  tried_to i u high rise h at above v has from to =
-      let p = place v has in
-      ⊎_elim (λ l. h p.0 v l p.2 from)
-      (λ o. absurd (⊎_elim
-      (λ e. let same = same_Some u v (sym at ∙ ap (slice_get values) (sym e) ∙ p.2) in past u v high same above to)
-      (λ l. let lt = rising_apart values i p.0 u v rise at p.2 l in beyond u v high lt above to) o))
-      (order p.0 i)
-    where
-      past : (u v high : ℤ) → u ≡ v → high <ℤ u → v ≤ℤ high → ⊥
-      past u v high e l t = omega (arith, ints, e, l, t)
+    pub tried_to : (high : ℤ) → high <ℤ x → (v : ℤ) → Contains values v → low ≤ℤ v → v ≤ℤ high → MeetsWith b r y k v
+    tried_to high above v has from to = elim (here.met v has from) [
+      | inl there ↦ let first = least_first x rest v here.rising there in absurd (omega (arith, ints, first, above, to))
+      | inr told ↦ told
+    ]
 
-      beyond : (u v high : ℤ) → u <ℤ v → high <ℤ u → v ≤ℤ high → ⊥
-      beyond u v high e l t = omega (arith, ints, e, l, t)
-
-  pub tried_all : (i : ℕ) → AreTried i → length values ≤ i → (v : ℤ) → Contains values v → low ≤ℤ v → MeetsWith b r y k v
-  tried_all i h few v has from = let p = place v has in let below = p.1 in h p.0 v (omega (arith, below, few)) p.2 from
+  pub tried_all : (rest : List ℤ) → rest ≡ [] → AreTried b r y k values low rest → (v : ℤ) → Contains values v → low ≤ℤ v → MeetsWith b r y k v
+  tried_all rest none tried v has from = elim (tried.met v has from) [
+    | inl there ↦ absurd (nothing_in v (subst (λ l. Contains l v) none there))
+    | inr told ↦ told
+  ]

@@ -6,6 +6,7 @@ ghost use Rattle.ts_automaton.specs.AutomatonRun.{AreCellValues};
 ghost use Rattle.ts_base.specs.Limits.{IsCellValue, most_cells};
 ghost use Rattle.ts_bound.specs.TermSpans.{automata_of};
 ghost use Rattle.ts_domain.specs.BoxSeries.{IsBox};
+ghost use Rattle.ts_domain.specs.Values.{IsDomain};
 ghost use Rattle.ts_glue.specs.declared.machine.Machine.{Machine};
 ghost use Rattle.ts_glue.specs.Machines.{forward_of, pair_of};
 ghost use Rattle.ts_model.specs.declared.model.Require.{Require};
@@ -288,6 +289,7 @@ fn meets_up_to(
     requires from { 1 ≤ k }
     requires to { k ≤ length (series_of witness.old) }
     requires letters { IsTrue letters → ReadsLetters (forward_of m.now) }
+    requires domain { IsDomain domain.now }
     requires there { Contains domain.now low }
     ensures witness { IsWitness m.now witness.new }
     ensures series { series_of witness.new ≡ series_of witness.old }
@@ -295,22 +297,21 @@ fn meets_up_to(
     ensures met { (v : ℤ) → Contains domain.now v → low ≤ℤ v → v ≤ℤ result →
         MeetsWith (forward_of m.now) r.now (series_of witness.old) (k - 1) v }
 {
-    let count = domain.size();
-    let from = domain.place_of(low);
     let mut like = None;
-    for i in from..count {
-        let v = domain.nth(i);
+    let mut tried = 0;
+    for v in domain.values_from(domain.place_of(low)) {
         if v > high {
             return high;
         }
         let below = one_below(v);
-        if i - from >= MOST_TRIED {
+        if tried >= MOST_TRIED {
             return below;
         }
         if !meets_with(witness, m, r, k, v, like) {
             return below;
         }
         like = some_if(letters, v);
+        tried += 1;
     }
     high
 }

@@ -4,6 +4,8 @@ use Rattle.std.proofs.lemmas.Int.{ints, to_z-of_z}
 use Rattle.std.proofs.lemmas.List.{get_or_default}
 use Rattle.ts_base.specs.Limits.{IsCellValue}
 use Rattle.ts_bound.specs.TermSpans.{automata_of}
+use Rattle.ts_domain.specs.Values.{IsDomain}
+use Rattle.ts_filter.proofs.BoxParts.{domain_at}
 use Rattle.ts_glue.specs.Machines.{forward_of}
 use Rattle.ts_witness.specs.KnownValues.{MeetsWith}
 use Rattle.ts_witness.specs.Witnesses.{series_of}
@@ -29,6 +31,16 @@ index_mut-requires c =
 
 pub meets_up_to-limit-requires-clause-letters : goal.meets_up_to-limit-requires-clause-letters
 meets_up_to-limit-requires-clause-letters c = (c.bring_beside.ensures.spared c.args.r.now c.requires.spared).letters
+
+pub meets_up_to-limit-requires-clause-domain : goal.meets_up_to-limit-requires-clause-domain
+meets_up_to-limit-requires-clause-domain c =
+    let s = c.bring_beside.new.self in
+    let i = c.args.k - 1 in
+    let long = c.requires.count in let to = c.requires.to in let from = c.requires.from in
+    let as_long : length s.cells.now ≡ length c.args.self.now.cells.now = ap (λ z. length z.now) c.bring_beside.ensures.same in
+    let inside : i < length s.cells.now = omega (arith, as_long, long, to, from) in
+    subst IsDomain (get_or_default s.cells.now i [] c.index-cells-i.result inside ∙ sym c.index-cells-i.is)
+    (domain_at s.cells.now i (c.bring_beside.ensures.spared c.args.r.now c.requires.spared).box inside)
 
 pub returns-then-high-reach-clause-spared : goal.returns-then-high-reach-clause-spared
 returns-then-high-reach-clause-spared c = c.bring_beside.ensures.spared c.args.r.now c.requires.spared
