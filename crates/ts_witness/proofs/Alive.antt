@@ -9,7 +9,6 @@ use Rattle.ts_base.specs.Windows.{LooksInside, looked_at}
 use Rattle.ts_domain.specs.BoxSeries.{InBox, IsBox}
 use Rattle.ts_domain.specs.Values.{IsDomain}
 use Rattle.ts_automaton.specs.AutomatonRun.{answer}
-use Rattle.ts_bound.specs.Looks.{is_looked, place_in}
 use Rattle.ts_bound.specs.TermSpans.{Automata}
 use Rattle.ts_bound.proofs.Looking.{looked_set}
 use Rattle.ts_model.specs.declared.model.Require.{Require}

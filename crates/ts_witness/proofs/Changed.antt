@@ -69,9 +69,6 @@ forward_is m p e = forward_of_made m.half (λ h. pair m.forward h.reverse (table
 
 module _ (m : Machine) (xs : List ℤ) (i j : ℕ) (v : ℤ) (l : i < length xs) (e : j ≡ length xs - suc i) (few : length xs ≤ most_cells) (cells : AreCellValues xs)
     (c : IsCellValue v) where
-  cut : List ℤ
-  cut = take i xs ++ v ∷ drop (suc i) xs
-
   module _ (p : Pair) (has : pair_of m ≡ Some p) where
     at_cut : glued_value p (after p.forward (take i xs ++ v ∷ [])) (after p.reverse (reverse (v ∷ drop (suc i) xs))) v
         (length (take i xs ++ v ∷ drop (suc i) xs)) ≡ answer p.forward (take i xs ++ v ∷ drop (suc i) xs)
@@ -116,16 +113,6 @@ pub whole_value : (b : Body) (xs : List ℤ) (n k : ℕ) (cell d : ℤ) (at : St
 whole_value b xs n k cell d at result some e f g h r =
     let all = ap (λ z. take (n - 1) xs ++ z ∷ []) g ∙ ap (λ z. take (z - 1) xs ++ get_or xs (z - 1) d ∷ []) e ∙ last_cut xs d some in
     r ∙ ap (λ s. finish_of b s k) (h ∙ ap (after b) all) ∙ ap (λ z. finish_of b (after b xs) z) f
-
--- a machine with a reverse automaton can be split
-pub is_split : (p : Option Pair) (b : Body) → Some b ≡ option_map (λ z. z.reverse) p → IsSome p
-is_split None b e = cc
-is_split (Some p) b e = refl
-
-pub cell_fits : (xs : List ℤ) (i : ℕ) (x d : ℤ) → AreCellValues xs → i < length xs → x ≡ get_or xs i d → IsCellValue x
-cell_fits [] i x d h l e = absurd (omega (arith, l))
-cell_fits (y ∷ xs) zero x d h l e = subst IsCellValue (sym e) h.0
-cell_fits (y ∷ xs) (suc i) x d h l e = cell_fits xs i x d h.1 (omega (arith, l)) e
 
 -- a value that stands there already changes nothing
 pub same_answer : (b : Body) (xs : List ℤ) (i k : ℕ) (x d : ℤ) → k ≡ i + 1 → x ≡ get_or xs i d → answer b (set xs (k - 1) x) ≡ answer b xs

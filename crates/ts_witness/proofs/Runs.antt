@@ -5,7 +5,7 @@ use Rattle.std.proofs.Math.Seq.{take-suc}
 use Rattle.std.proofs.lemmas.Option.{slice_get-get_or, get_or_from_slice_get, same_Some, slice_get_within}
 use Rattle.ts_automaton.specs.declared.regs.At.{At}
 use Rattle.ts_automaton.specs.Body.{Body}
-use Rattle.ts_automaton.specs.AutomatonRun.{Stands, start_of, after, step_of, standing_of}
+use Rattle.ts_automaton.specs.AutomatonRun.{Stands, after, step_of, standing_of}
 use Rattle.ts_glue.proofs.CallerLemmas.{after_more}
 use Rattle.ts_witness.specs.declared.run.Side.{Side}
 use Rattle.ts_witness.specs.Runs.{IsRun, IsSide}
@@ -111,10 +111,6 @@ module _ (b : Body) (cells : List ℤ) (states : List At) (known i : ℕ) (r : I
   moved_at x v f =
       subst (λ z. step_of b (standing_of a) x v ≡ after b (take z cells ++ v ∷ [])) (back_up i n)
       (moved b cells states known (i - 1) x v a r (below i known n l) state_there (found cells (i - 1) x f (inside b cells states known i r n l).1))
-
-pub first_at : (b : Body) (cells : List ℤ) (i : ℕ) (v : ℤ) → i ≡ 0 → start_of b ≡ after b (take i cells ++ v ∷ [])
-first_at b cells zero v e = refl
-first_at b cells (suc i) v e = absurd (omega (arith, e))
 
 -- what a run has beside a place
 

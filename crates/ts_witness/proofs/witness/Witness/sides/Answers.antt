@@ -1,6 +1,5 @@
-use Rattle.std.proofs.Common.{rules, ◌≡◌, ◌∙◌, ◌-◌, suc, vec_len, length, subst, sym, arith, reverse}
-use Rattle.ts_glue.specs.Machines.{forward_of}
-use Rattle.ts_witness.specs.Runs.{IsSide, cells_in}
+use Rattle.std.proofs.Common.{rules, ◌≡◌, ◌-◌, suc, vec_len, length, subst, arith, reverse}
+use Rattle.ts_witness.specs.Runs.{IsSide}
 use Rattle.ts_witness.specs.Witnesses.{series_of}
 use Rattle.ts_witness.proofs.witness.Witness.sides.Goals as goal
 
