@@ -31,7 +31,7 @@ impl Witness {
 
     /// Whether the series with `v` at place `k`, counted from 1, meets a requirement on the term of this machine, which
     /// can be split. If so, the requirement drops `v` there on no box with the series.
-    pub fn keeps(&mut self, m: &Machine, r: &Require, k: u32, v: i64) -> bool
+    pub(crate) fn keeps(&mut self, m: &Machine, r: &Require, k: u32, v: i64) -> bool
         requires split { IsSome (pair_of m.now) }
         requires witness { IsWitness m.now self.old }
         requires few { length (series_of self.old) ≤ most_cells }

@@ -1,7 +1,7 @@
 //! Witnesses: a series of a box that meets a requirement shows that it excludes nothing of the box.
 //!
 //! The layer above may rely on this: where `holds` is true of a requirement, it is refuted at no cell of any box with
-//! the series; where `keeps` is true of a cell and a value, that value isn't dropped by it there. So neither need be
+//! the series; no value of a cell up to the one that `keeps_up_to` answers is dropped by it there. So neither need be
 //! asked of tables.
 #![tactic(auto)]
 
