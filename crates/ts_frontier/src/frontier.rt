@@ -97,7 +97,7 @@ impl Frontier {
 
     /// The present box is replaced by its lower side, the values of cell `k` up to `t`; after it waits its upper side.
     /// Each side has to have a value. After `Memory` nothing has changed.
-    pub fn split(&mut self, k: u32, t: i64) -> Result<(), Memory>
+    pub(crate) fn split(&mut self, k: u32, t: i64) -> Result<(), Memory>
         requires ready { IsTrue self.old.ready }
         requires cell { HasCell k (first self.old.boxes) }
         requires low { values_up_to t (values_at k (first self.old.boxes)) ≢ [] }
@@ -118,7 +118,7 @@ impl Frontier {
 
     /// Value `v` of cell `k` is taken from the present box; another one has to stay. After `Memory` nothing has
     /// changed.
-    pub fn remove(&mut self, k: u32, v: i64) -> Result<(), Memory>
+    pub(crate) fn remove(&mut self, k: u32, v: i64) -> Result<(), Memory>
         requires ready { IsTrue self.old.ready }
         requires cell { HasCell k (first self.old.boxes) }
         requires stays { values_without v (values_at k (first self.old.boxes)) ≢ [] }
@@ -130,7 +130,7 @@ impl Frontier {
     }
 
     /// The present box is done, and the boxes after it wait. This takes no memory.
-    pub fn close(&mut self)
+    pub(crate) fn close(&mut self)
         requires { IsTrue self.old.ready }
         ensures { self.new ≡ after_close self.old }
     {

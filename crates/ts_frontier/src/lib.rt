@@ -7,14 +7,13 @@
 //! | call | the waiting boxes | memory |
 //! |---|---|---|
 //! | `advance` | the same; the next one becomes present | one change of a cell |
-//! | `split` | the next one gives way to its lower side, then its upper side | one change of a cell, one entry |
-//! | `remove` | the next one loses a value of a cell | one change of a cell |
-//! | `close`, `clear` | all but the next one; none | none |
+//! | [`follow`], a split | the next one gives way to its lower, then its upper side | one change of a cell, one entry |
+//! | [`follow`], a removal | the next one loses a value of a cell | one change of a cell |
+//! | [`follow`], another line; `clear` | all but the next one; none | none |
 //!
-//! [`follow`] does to them what a line of a tree says. A split finds an end of one cell's set by halving and copies the
-//! set's marks, or makes its ranges anew where it has lost more than 128 numbers by marks; a removal sets a mark; an
-//! advance costs what a split does, and by the changes since its box was split. None costs by the number of cells.
-//! After `Memory` nothing has changed.
+//! A split finds an end of one cell's set by halving and copies the set's marks, or makes its ranges anew where it has
+//! lost more than 128 numbers by marks; a removal sets a mark; an advance costs what a split does, and by the changes
+//! since its box was split. None costs by the number of cells. After `Memory` nothing has changed.
 //!
 //! However many lines are followed, few boxes wait: by the law `few_wait` at most one more than the values of all cells
 //! of the first box, less its cells. [`first_halving`] says where a box is split, as does [`halving_from`], where it is
