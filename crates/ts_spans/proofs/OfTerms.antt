@@ -9,7 +9,7 @@ use Rattle.ts_base.specs.Limits.{IsCellValue}
 use Rattle.ts_base.specs.Spans.{Holds as SpanHolds, one_span}
 use Rattle.ts_base.specs.Windows.{LooksInside, looked_at}
 use Rattle.ts_base.proofs.WindowLaws.{each_looked, few_looked, some_looked}
-use Rattle.ts_domain.specs.BoxSeries.{InBox, IsBox}
+use Rattle.ts_domain.specs.BoxSeries.{IsBox}
 use Rattle.ts_automaton.specs.AutomatonRun.{AreCellValues, HoldsMark, answer}
 use Rattle.ts_pattern.specs.declared.name.PatternId.{PatternId}
 use Rattle.ts_seed.specs.SeedTable.{seed_table}
