@@ -1,6 +1,5 @@
 -- A leap as the code makes it: the boxes below on the trail, the values that are taken away, and where it ends.
 use Rattle.std.proofs.Common.{◌≡◌, ◌⊎◌, ℕ, zero, suc, ◌+◌, ◌-◌, ◌/◌, ◌<◌, ◌≤◌, ℤ, ◌<ℤ◌, Bool, false, List, [], ◌∷◌, length, get_or, set, take, Some, None, slice_get, refl, sym, ◌∙◌, ap, subst, inl, inr, ⊎_elim, arith, ◌↔◌}
-use Rattle.std.proofs.lemmas.Bool.{false_from_ne_true}
 use Rattle.std.proofs.lemmas.List.{get_or-take, get_or_append_left, length-set, length-take-le, length_push, take-set, take_more}
 use Rattle.std.proofs.lemmas.Option.{slice_get_within}
 use Rattle.std.proofs.Math.Seq.{get_or-append_seam}
@@ -29,8 +28,8 @@ use Rattle.ts_search.specs.Views.{problem_of, search_of, sought_of}
 use Rattle.ts_search.specs.declared.problem.Problem.{Problem}
 use Rattle.ts_search.specs.declared.seeking.Seeking.{Seeking}
 use Rattle.ts_search.specs.declared.seeking.Seeking.TheVariants.{Best as SeeksBest, First as SeeksFirst}
-use Rattle.ts_search.proofs.CallLaws.{refuted_is, to_machine}
-use Rattle.ts_search.proofs.Known.{from_refuted, to_refuted}
+use Rattle.ts_search.proofs.CallLaws.{refuted_is}
+use Rattle.ts_search.proofs.Known.{from_refuted}
 use Rattle.ts_search.proofs.Leaps.{after_more, after_part, leap_splits, splits_it, tried_less, tried_more}
 use Rattle.ts_search.proofs.Parts.{wide_split}
 
@@ -163,14 +162,6 @@ all_free s b k t left end h v j has r =
 abbrev pub NoneRefutes : Search → Box → ℕ → ℤ → ℕ → Type 0
 NoneRefutes s b k v n = (j : ℕ) → 1 ≤ j → j < n → is_refuted_at s j k (only k v b) ≡ false
 
-pub none_first : (s : Search) (b : Box) (k : ℕ) (v : ℤ) → NoneRefutes s b k v 1
-none_first s b k v j from to = absurd (omega (arith, from, to))
-
-pub none_next : (s : Search) (b : Box) (k : ℕ) (v : ℤ) (n : ℕ) (told : Bool) → told ≡ is_refuted_at s n k (only k v b) → told ≡ false →
-    NoneRefutes s b k v n → NoneRefutes s b k v (n + 1)
-none_next s b k v n told is fails h j from to =
-    ⊎_elim (λ e. subst (λ z. is_refuted_at s z k (only k v b) ≡ false) (sym e) (sym is ∙ fails)) (λ l. h j from l) (which j n to)
-
 pub none_at_all : (s : Search) (b : Box) (k : ℕ) (v : ℤ) (n m : ℕ) → m + 1 ≤ n → m ≡ requirements s → NoneRefutes s b k v n → (j : ℕ) →
     IsRefuted s.model.requirements s.spans j k (only k v b) → ⊥
 none_at_all s b k v n m end count h j r =
@@ -193,14 +184,6 @@ module _ (q : Problem) (b : Box) (j : ℕ) (r : Require) (a : Automata) (from : 
         to = (let to = cell.1 in let same = same_size in omega (arith, to, same));
         last = λ n. usable n ∙ sym same_size;
       }) told h
-
-  pub plain_told : a.pair ≡ None → k < length b → false ≡ is_refuted_at (search_of q) j k (only k v b)
-  plain_told none below =
-      sym (false_from_ne_true (is_refuted_at (search_of q) j k (only k v b))
-      (λ t.
-      let u = to_machine (automata_in (model_parts q.model.now)) r.term a machine q.model.now.requirements.items j r (from, there) refl k (only k v b)
-      (to_refuted (search_of q) j k (only k v b) t) in
-      let last = u.0.last none in let same = same_size in omega (arith, last, same, below)))
 
 -- the end of a leap
 

@@ -61,13 +61,6 @@ low_inside k t b = go (k - 1) b
     go zero (d ∷ b) = ((λ v h. ((contains_up_to t d v).0 h).0), inside_self b)
     go (suc i) (d ∷ b) = ((λ v h. h), go i b)
 
-values_inside : (i : ℕ) (b m : Box) → IsInside b m → (v : ℤ) → Contains (get_or b i []) v → Contains (get_or m i []) v
-values_inside i [] [] h v c = c
-values_inside i [] (e ∷ m) h v c = absurd h
-values_inside i (d ∷ b) [] h v c = absurd h
-values_inside zero (d ∷ b) (e ∷ m) h v c = h.0 v c
-values_inside (suc i) (d ∷ b) (e ∷ m) h v c = values_inside i b m h.1 v c
-
 -- values and cells
 
 same_or_other : (u v : ℤ) → (u ≡ v) ⊎ (u ≡ v → ⊥)

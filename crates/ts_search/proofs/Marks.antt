@@ -2,8 +2,7 @@
 use Rattle.std.proofs.Common.{◌≡◌, ℕ, zero, suc, ◌+◌, ◌-◌, ◌<◌, ◌≤◌, ℤ, ◌≤ℤ◌, Bool, true, false, List, [], ◌∷◌, length, get_or, map, set, Option, Some, None, slice_get, ◌⊎◌, inl, inr, ⊎_elim, refl, sym, ◌∙◌, ap, subst, arith}
 use Rattle.std.proofs.lemmas.Int.{ints}
 use Rattle.std.proofs.lemmas.Option.{same_Some, slice_get_within}
-use Rattle.std.proofs.lemmas.List.{length-map, length-set}
-use Rattle.std.specs.Prelude.{Contains, IsSome, IsTrue, option_map, unwrap_or}
+use Rattle.std.specs.Prelude.{Contains, IsSome, option_map, unwrap_or}
 use Rattle.ts_base.specs.Windows.{LooksInside, looked_at}
 use Rattle.ts_base.specs.Limits.{most_cells}
 use Rattle.ts_bound.specs.Looks.{count_looked, first_looked, is_looked, last_looked, place_in}
@@ -13,7 +12,7 @@ use Rattle.ts_domain.specs.declared.interval.Interval.{Interval}
 use Rattle.ts_domain.specs.BoxSeries.{InBox}
 use Rattle.ts_filter.specs.Boxes.{Box, HasCell, IsInside, IsPart, values_at}
 use Rattle.ts_filter.specs.KeptCells.{AreKept, AreSized, IsAliveTerm, IsSpared, forgotten, with_alive, with_known, with_spared}
-use Rattle.ts_filter.specs.RefutedWorseDrop.{IsDrop, IsRefuted, IsRequirement}
+use Rattle.ts_filter.specs.RefutedWorseDrop.{IsDrop}
 use Rattle.ts_filter.specs.Tests.{is_drop}
 use Rattle.ts_filter.proofs.BoxParts.{inside_length}
 use Rattle.ts_filter.proofs.SoundLaws.{clash}
@@ -26,7 +25,7 @@ use Rattle.ts_spans.specs.Machines.{automata_in, spans_in}
 use Rattle.ts_spans.proofs.OfTerms.{window_looks}
 use Rattle.ts_witness.specs.Laws.{IsKept}
 use Rattle.ts_witness.specs.Witnesses.{series_of}
-use Rattle.ts_search.proofs.Witnessed.{asked, bring_few, each_after, get_set, held_after, shown_alive}
+use Rattle.ts_search.proofs.Witnessed.{asked, each_after, get_set, held_after, shown_alive}
 use Rattle.ts_search.specs.LineOf.{is_refuted_at, last, requirements}
 use Rattle.ts_search.specs.Posed.{IsPosed}
 use Rattle.ts_search.specs.Shown.{AreEnds, AreHeld, AreMarked, AreMet, AreShown, CanSpare, IsEnds, IsHeld, OfEach, is_shown}
@@ -308,16 +307,6 @@ module _ (q : Problem) (posed : IsPosed q) (w w' : Witnesses) (b : Box) (same : 
 abbrev pub AreMetBelow : Problem → Witnesses → ℕ → ℕ → Type 0
 AreMetBelow q w term n =
     (i : ℕ) (r : Require) → i < n → slice_get q.model.now.requirements.items i ≡ Some r → r.term ≡ term → is_shown w (i + 1) ≡ true
-
-pub none_below : (q : Problem) (w : Witnesses) (term : ℕ) → AreMetBelow q w term 0
-none_below q w term i r below is on = absurd (omega (arith, below))
-
-pub all_below : (q : Problem) (w : Witnesses) (term n : ℕ) → AreMetBelow q w term n → length q.model.now.requirements.items ≤ n → AreMet q w term
-all_below q w term n h few j r is on =
-    let below = slice_get_within q.model.now.requirements.items (j - 1) r is.1 in
-    let from = is.0 in
-    let next : j - 1 + 1 ≡ j = omega (arith, from) in
-    subst (λ z. is_shown w z ≡ true) next (h (j - 1) r (omega (arith, below, few)) is.1 on)
 
 -- the ends of the domains before a place
 

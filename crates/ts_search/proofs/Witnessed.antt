@@ -1,12 +1,12 @@
 -- What witnesses show of a box, and how they come to lie in it.
-use Rattle.std.proofs.Common.{◌≡◌, ◌≢◌, ◌⊎◌, ℕ, zero, suc, ◌+◌, ◌-◌, ◌<◌, ◌≤◌, ℤ, pos, Bool, true, false, List, [], ◌∷◌, ◌++◌, length, get_or, map, replicate, set, Option, Some, None, slice_get, refl, sym, ◌∙◌, ap, subst, inl, inr, ⊎_elim, arith}
+use Rattle.std.proofs.Common.{◌≡◌, ◌⊎◌, ℕ, zero, suc, ◌+◌, ◌-◌, ◌<◌, ◌≤◌, ℤ, pos, Bool, true, false, List, [], ◌∷◌, ◌++◌, length, get_or, map, replicate, set, Option, Some, None, slice_get, refl, sym, ◌∙◌, ap, subst, inl, inr, ⊎_elim, arith}
 use Rattle.std.proofs.lemmas.List.{get_or-set_same, get_or-set_other, length-map, length-set}
 use Rattle.std.proofs.lemmas.Option.{same_Some, slice_get-get_or}
 use Rattle.std.specs.Prelude.{Contains, IsTrue, option_map, unwrap_or}
 use Rattle.ts_base.specs.declared.range.Range.{Range}
 use Rattle.ts_base.specs.Windows.{LooksInside, looked_at}
-use Rattle.ts_base.proofs.WindowLaws.{few_looked, some_looked}
-use Rattle.ts_bound.specs.Looks.{count_looked, first_looked, is_looked, last_looked, place_in}
+use Rattle.ts_base.proofs.WindowLaws.{few_looked}
+use Rattle.ts_bound.specs.Looks.{count_looked, first_looked, last_looked, place_in}
 use Rattle.ts_bound.specs.TermSpans.{LooksIn, automata_of}
 use Rattle.ts_bound.proofs.Looking.{ends_inside, looked_by, looked_get, looked_length, place_inside}
 use Rattle.ts_bound.proofs.Reached.{box_length}
@@ -15,8 +15,8 @@ use Rattle.ts_automaton.specs.AutomatonRun.{AreCellValues}
 use Rattle.ts_domain.specs.BoxSeries.{InBox}
 use Rattle.ts_domain.specs.Values.{IsDomain, WithinLimits}
 use Rattle.ts_domain.proofs.Sets.{each_contains}
-use Rattle.ts_filter.specs.Boxes.{Box, IsPart, values_at}
-use Rattle.ts_filter.specs.KeptCells.{AreKept, AreSized, TermKept, unknown}
+use Rattle.ts_filter.specs.Boxes.{Box, IsPart}
+use Rattle.ts_filter.specs.KeptCells.{AreSized, TermKept, unknown}
 use Rattle.ts_filter.proofs.BoxParts.{inside_length}
 use Rattle.ts_filter.proofs.SparedLaws.{none_sized}
 use Rattle.ts_model.specs.declared.model.Require.{Require}
@@ -226,10 +226,6 @@ domain_there w b k h from to =
     ap (λ i. get_or (looked_at w b) i []) (sym at) ∙ looked_get b k w [] h looked
 
 -- as they are made
-
-pub more_cells : (x : List ℤ) (v : ℤ) → AreCellValues x → IsCellValue v → AreCellValues (x ++ v ∷ [])
-more_cells [] v h c = (c, tt)
-more_cells (u ∷ x) v h c = (h.0, more_cells x v h.1 c)
 
 pub record IsMade (q : Problem) (r : Require) (s : Shown) : Type 0 where
   pub machine : slice_get (automata_in (model_parts q.model.now)) r.term ≡ Some (automata_of s.machine.now)

@@ -1,6 +1,6 @@
 -- Witnesses of a problem's requirements, and the box that their series lie in.
 use Rattle.std.specs.Prelude.{◌≡◌, ℕ, ◌-◌, ◌≤◌, ◌≤ℤ◌, ℤ, Bool, false, true, List, [], Contains, IsSome, IsTrue, Some, get_or, length}
-use Rattle.std.specs.Prelude.{option_map, replicate, set, slice_get, unwrap_or}
+use Rattle.std.specs.Prelude.{option_map, set, slice_get, unwrap_or}
 use Rattle.ts_automaton.specs.AutomatonRun.{AreCellValues}
 use Rattle.ts_base.specs.Windows.{looked_at}
 use Rattle.ts_bound.specs.Looks.{count_looked, is_looked, place_in}
@@ -8,7 +8,7 @@ use Rattle.ts_bound.specs.TermSpans.{Automata, automata_of}
 use Rattle.ts_domain.specs.declared.interval.Interval.{Interval}
 use Rattle.ts_domain.specs.BoxSeries.{InBox}
 use Rattle.ts_filter.specs.Boxes.{Box, IsPart}
-use Rattle.ts_filter.specs.KeptCells.{AreKept, AreSized, unknown}
+use Rattle.ts_filter.specs.KeptCells.{AreKept, AreSized}
 use Rattle.ts_filter.specs.RefutedWorseDrop.{IsRequirement, Spans}
 use Rattle.ts_glue.specs.Machines.{window_of}
 use Rattle.ts_model.specs.declared.model.Require.{Require}

@@ -1,6 +1,5 @@
-use Rattle.std.proofs.Common.{◌∙◌, ap, arith, subst, sym}
-use Rattle.ts_search.specs.Leaps.{AreTried}
-use Rattle.ts_search.specs.Views.{problem_of, search_of, sought_of}
+use Rattle.std.proofs.Common.{◌∙◌, arith}
+use Rattle.ts_search.specs.Views.{problem_of, search_of}
 use Rattle.ts_search.proofs.CodeLeaps.{back_there, down_back, half_tried, leap_sought, part_below, shorter}
 use Rattle.ts_search.proofs.Posed.{part_size}
 use Rattle.ts_search.proofs.leap.leap.Goals as goal

@@ -1,4 +1,4 @@
-use Rattle.std.proofs.Common.{rules, ◌∙◌, sym, subst, w64, to_z, of_z}
+use Rattle.std.proofs.Common.{rules, ◌∙◌, sym, subst, w64}
 use Rattle.std.specs.Prelude.{Contains}
 use Rattle.std.proofs.lemmas.Int.{to_z-of_z}
 use Rattle.ts_base.specs.Limits.{IsCellValue}

@@ -1,9 +1,8 @@
-use Rattle.std.proofs.Common.{◌≡◌, sym, subst}
+use Rattle.std.proofs.Common.{sym, subst}
 use Rattle.ts_automaton.specs.AutomatonRun.{AreCellValues}
 use Rattle.ts_bound.specs.TermSpans.{automata_of}
 use Rattle.ts_witness.specs.KnownValues.{AreBeside}
 use Rattle.ts_witness.specs.Laws.{IsAlive}
-use Rattle.ts_witness.specs.Witnesses.{series_of}
 use Rattle.ts_search.proofs.shown.Shown.chosen.Goals as goal
 
 pub returns-clause-held : goal.returns-clause-held

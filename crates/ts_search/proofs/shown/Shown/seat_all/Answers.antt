@@ -1,5 +1,4 @@
-use Rattle.std.proofs.Common.{◌≡◌, ◌≤◌, ◌∙◌, ap, refl, subst, sym, arith, length}
-use Rattle.ts_base.specs.Windows.{looked_at}
+use Rattle.std.proofs.Common.{◌∙◌, ap, refl, arith}
 use Rattle.ts_base.proofs.WindowLaws.{few_looked}
 use Rattle.ts_bound.specs.Looks.{first_looked, last_looked}
 use Rattle.ts_glue.specs.Machines.{window_of}

@@ -1,4 +1,4 @@
-use Rattle.std.proofs.Common.{◌≡◌, sym, subst}
+use Rattle.std.proofs.Common.{sym, subst}
 use Rattle.ts_automaton.specs.AutomatonRun.{AreCellValues}
 use Rattle.ts_bound.specs.TermSpans.{automata_of}
 use Rattle.ts_witness.specs.KnownValues.{AreBeside}

@@ -1,4 +1,4 @@
-use Rattle.std.proofs.Common.{rules, ◌≡◌, ◌<◌, refl, ◌∙◌, ap, arith, length, vec_len}
+use Rattle.std.proofs.Common.{rules, ◌≡◌, refl, ◌∙◌, arith, length, vec_len}
 use Rattle.std.proofs.lemmas.List.{length-set}
 use Rattle.std.specs.Vec.{with_item}
 use Rattle.ts_search.specs.declared.witnesses.Witnesses.{Witnesses}

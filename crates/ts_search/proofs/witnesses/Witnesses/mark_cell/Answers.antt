@@ -1,4 +1,4 @@
-use Rattle.std.proofs.Common.{rules, ◌≡◌, ◌⊎◌, ◌-◌, ◌∙◌, length, vec_len, refl, sym, subst, arith, w64, to_z, of_z}
+use Rattle.std.proofs.Common.{rules, ◌≡◌, ◌⊎◌, ◌-◌, length, vec_len, refl, sym, subst, arith, w64, to_z, of_z}
 use Rattle.std.proofs.lemmas.Int.{to_z-of_z}
 use Rattle.ts_filter.specs.KeptCells.{AreKept, IsSpared}
 use Rattle.ts_filter.proofs.BoxParts.{inside_length}

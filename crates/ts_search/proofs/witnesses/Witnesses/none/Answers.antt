@@ -1,4 +1,4 @@
-use Rattle.std.proofs.Common.{◌≡◌, [], ◌≤◌, length, sym, ap, subst, arith}
+use Rattle.std.proofs.Common.{◌≤◌, length, sym, ap, subst, arith}
 use Rattle.ts_search.proofs.Witnessed.{all_made, none_made, unmarked_sized}
 use Rattle.ts_search.specs.LineOf.{requirements}
 use Rattle.ts_search.specs.Views.{search_of}

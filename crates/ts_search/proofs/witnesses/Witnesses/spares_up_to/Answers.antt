@@ -1,4 +1,4 @@
-use Rattle.std.proofs.Common.{rules, ◌≡◌, ◌∙◌, length, vec_len, refl, sym, subst, arith, w64, ◌+◌}
+use Rattle.std.proofs.Common.{rules, ◌≡◌, ◌∙◌, length, vec_len, sym, subst, arith, w64, ◌+◌}
 use Rattle.std.proofs.lemmas.Int.{to_z-of_z}
 use Rattle.ts_search.proofs.Marks.{SparedBelow, all_spared, spared_next}
 use Rattle.ts_search.proofs.witnesses.Witnesses.spares_up_to.Goals as goal
