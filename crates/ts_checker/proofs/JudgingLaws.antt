@@ -19,7 +19,7 @@ use Rattle.ts_spans.specs.Machines.{spans_in}
 use Rattle.ts_checker.specs.declared.judging.Judging.{Judging}
 use Rattle.ts_checker.specs.declared.verdict.Verdict.{Verdict}
 use Rattle.ts_checker.specs.declared.verdict.Verdict.TheVariants.{Accepted}
-use Rattle.ts_checker.specs.Checking.{Checking, HasChecked, Takes, first_checking}
+use Rattle.ts_checker.specs.Checking.{Checking, HasChecked, Takes}
 use Rattle.ts_checker.specs.Feeding.{HasJudged, HasRead, JudgesLine, Reads}
 use Rattle.ts_checker.specs.Shortened.{Extends, IsKeptOf, IsSmall}
 use Rattle.ts_checker.specs.Verdicts.{IsTrueOf, IsVerdict, refused_line}

@@ -1,7 +1,6 @@
 -- Few bytes that are kept of an unfinished line stand for it when bytes come after both, and are checked as the line.
-use Rattle.std.proofs.Common.{◌≡◌, ℕ, ◌^◌, ◌<◌, ◌≤◌, inl, inr, Option, Some, None, Ok, Err, List, [], ◌∷◌, ◌++◌, length, refl, sym, ap, subst, ◌∙◌, arith, append_assoc, append-nil}
+use Rattle.std.proofs.Common.{◌≡◌, ℕ, ◌^◌, ◌<◌, ◌≤◌, inl, inr, Option, Some, None, Ok, List, [], ◌∷◌, ◌++◌, length, refl, sym, ap, subst, ◌∙◌, arith, append-nil}
 use Rattle.std.specs.Prelude.{ℤ, MatchOption, Result}
-use Rattle.std.proofs.lemmas.List.{length-append}
 use Rattle.ts_base.specs.Words.{without_lf, words_of}
 use Rattle.ts_base.proofs.WordLaws.{lf_again}
 use Rattle.ts_certificate.specs.declared.certificate.Claim.{Claim}
@@ -9,7 +8,6 @@ use Rattle.ts_certificate.specs.declared.state.State.{State}
 use Rattle.ts_certificate.specs.declared.state.State.TheVariants.{Start}
 use Rattle.ts_certificate.specs.declared.stop.CertStop.{CertStop}
 use Rattle.ts_certificate.specs.declared.stop.LineStop.{LineStop}
-use Rattle.ts_certificate.specs.declared.stop.LineStop.TheVariants.{Grammar}
 use Rattle.ts_certificate.specs.Grammar.{CertLine, SaysSeries}
 use Rattle.ts_certificate.specs.LineOf.{line_if, line_of, line_of_words}
 use Rattle.ts_certificate.specs.Reading.{answer_at, answer_unless, reading_by, reading_unless, tree_lines}
@@ -23,47 +21,7 @@ use Rattle.ts_model.specs.ModelTexts.{IsUnfinished}
 use Rattle.ts_model.proofs.LinePieces.{none_without}
 use Rattle.ts_checker.specs.Checking.{Checking, HasChecked, Takes, TakesBy, TakesFirst, TakesOn}
 use Rattle.ts_checker.proofs.Verdicts.{state_few}
-use Rattle.ts_checker.specs.Shortened.{AreAlike, Extends, IsKeptOf, ReadAlike, Shortens}
-
--- bytes after both
-
-alike_on : (a b c : Result CertLine LineStop) → AreAlike a b → AreAlike b c → AreAlike a c
-alike_on a b c (inl p) (inl q) = inl (p.0, q.1)
-alike_on a b c (inl p) (inr q) = absurd (let wrong : ◌≡◌ {A = Result CertLine LineStop} (Err Grammar) (Ok (SaysSeries q.few)) = sym p.1 ∙ q.kept_is in cc)
-alike_on a b c (inr p) (inl q) = absurd (let wrong : ◌≡◌ {A = Result CertLine LineStop} (Err Grammar) (Ok (SaysSeries p.all)) = sym q.0 ∙ p.line_is in cc)
-alike_on a b c (inr p) (inr q) = inr (record {
-  few = p.few;
-  all = q.all;
-  kept_is = p.kept_is;
-  line_is = q.line_is;
-  kept_long = p.kept_long;
-  line_long = q.line_long;
-})
-
-longer : (kept line part : List ℕ) → IsKeptOf kept line → IsKeptOf (kept ++ part) (line ++ part)
-longer kept line part (inl same) = inl (ap (λ (x : List ℕ). x ++ part) same)
-longer kept line part (inr h) =
-    let a = length-append line part in
-    let b = length-append kept part in
-    let some = h.some in
-    let left = h.left in
-    inr (record {
-      some = omega (arith, a, some);
-      left = omega (arith, b, left);
-      alike = λ more.
-          subst (λ (x : List ℕ). ReadAlike x ((line ++ part) ++ more)) (sym (append_assoc kept part more))
-          (subst (λ (x : List ℕ). ReadAlike (kept ++ (part ++ more)) x) (sym (append_assoc line part more)) (h.alike (part ++ more)));
-    })
-
-shorter : (short kept line : List ℕ) → Shortens kept short → IsKeptOf kept line → IsKeptOf short line
-shorter short kept line k (inl same) = inr (subst (λ (x : List ℕ). Shortens x short) same k)
-shorter short kept line k (inr h) = inr (record {
-  some = h.some;
-  left = k.left;
-  alike = λ more s few.
-      alike_on (line_of_words s (words_of (short ++ more))) (line_of_words s (words_of (kept ++ more))) (line_of_words s (words_of (line ++ more)))
-      (k.alike more s few) (h.alike more s few);
-})
+use Rattle.ts_checker.specs.Shortened.{AreAlike, IsKeptOf}
 
 -- an empty line is kept as it is
 
