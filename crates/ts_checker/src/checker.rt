@@ -128,7 +128,7 @@ impl Checker {
     }
 
     /// The first line so far that was against the grammar, or an end line with other counts.
-    pub fn refused_line(&self) -> Option<u32>
+    pub(crate) fn refused_line(&self) -> Option<u32>
         ensures { result ≡ refused_line self.now.reading }
     {
         match self.reader.stop() {
