@@ -20,9 +20,6 @@ use Rattle.ts_model.proofs.TermWindows.{any_window, none_windowed}
 use Rattle.ts_decorate.specs.Answers.{longest}
 use Rattle.ts_token.specs.Gist.{AreEnded, IsLine, StandsFor, gist, heads, without_end}
 use Rattle.ts_token.specs.Short.{IsShort, TakesIn}
-use Rattle.ts_token.specs.Singles.{IsSingle}
-use Rattle.ts_token.specs.declared.single.Single.{Single}
-use Rattle.ts_token.specs.declared.single.Single.TheVariants.{NotText, Skipped as Blank, Word, More}
 use Rattle.ts_token.specs.Text.{Piece, is_skipped, is_text, lines_of, words_of}
 use Rattle.ts_token.proofs.LineLaws.{text_lines_few}
 use Rattle.ts_token.proofs.GistLaws.{ended_append, ended_none, same_gist, unfinished_line}
@@ -36,8 +33,7 @@ use Rattle.ts_model.proofs.ModelTexts.{ended_line, one_line}
 use Rattle.ts_monitor.specs.Monitors.{StandsFor as Stands, Watched}
 use Rattle.ts_run.specs.Streams.{AddsDue, AddsReply, Due}
 use Rattle.ts_run.specs.Watch.{Readings, after_values, bad_at, end_of, line_gives, line_onto, lines_due, only_value, readings_due, readings_from, readings_of, readings_reply, refused_reading, values_due, values_line, values_lines, values_reply, words_give}
-use Rattle.ts_run.specs.Watching.{AreReadings, EndsLine, HasTaken, HasTerms, IsNext, MayRead, ReadsLine}
-use Rattle.ts_run.specs.declared.readings.Reading.TheVariants.{Bad}
+use Rattle.ts_run.specs.Watching.{AreReadings, EndsLine, HasTaken, HasTerms, MayRead, ReadsLine}
 use Rattle.ts_run.specs.declared.readings.ReadingsText.{ReadingsText}
 use Rattle.ts_run.specs.declared.status.Status.{Status}
 use Rattle.ts_run.specs.declared.status.Status.TheVariants.{Done, Refused}

@@ -4,12 +4,11 @@ use Rattle.std.proofs.Common.{◌≡◌, ◌⊎◌, ℕ, ◌≤◌, inl, inr, Op
 use Rattle.std.specs.Prelude.{IfSome}
 use Rattle.ts_base.specs.Outside.{Rose}
 use Rattle.ts_run.specs.AnswerTexts.{IsReply}
-use Rattle.ts_run.specs.Refusals.{refused_words}
 use Rattle.ts_run.specs.Commands.{KeepsRanges, input_of, RepliesAtOnce}
 use Rattle.ts_run.specs.Endings.{CallEnds, CallTakes, InputEnds, InputTakes, OfBytes, RepliesWithin, Responds, RunEnds, SinkTells, SourceTells, WholeEnds, WholeTakes, CallSpares, InputSpares, due_of}
 use Rattle.ts_run.specs.Headline.{Headline}
 use Rattle.ts_run.specs.LiveEndings.{LiveEnds, StreamBroken, StreamGiven, StreamReplies}
-use Rattle.ts_run.specs.Reply.{Ends, EndsWith, Reply, TellsNoFault}
+use Rattle.ts_run.specs.Reply.{EndsWith, Reply, TellsNoFault}
 use Rattle.ts_run.specs.Streams.{Due}
 use Rattle.ts_run.specs.Watch.{watch_due, watch_reply}
 use Rattle.ts_run.specs.Well.{ReadsWell, WritesWell}

@@ -2,9 +2,9 @@
 use Rattle.std.proofs.Common.{◌≡◌, ℕ, inl, Option, Some, None, List, [], ◌++◌, take, refl, sym, ◌∙◌, ap, subst, append-nil}
 use Rattle.ts_base.specs.Outside.{Prefix, taken_more}
 use Rattle.ts_run.specs.LiveEndings.{EndsInLines}
-use Rattle.ts_run.specs.LiveSteps.{EndsBehind, Serves, Stops, TakesDue}
+use Rattle.ts_run.specs.LiveSteps.{EndsBehind, Stops, TakesDue}
 use Rattle.ts_run.specs.Reply.{ComesOfInput, Ends, EndsWritten, Reply}
-use Rattle.ts_run.specs.Streams.{AddsDue, AddsLines, AddsReply, Due, IsFront, IsLines}
+use Rattle.ts_run.specs.Streams.{AddsDue, AddsLines, AddsReply, Due, IsFront}
 use Rattle.ts_run.specs.declared.status.Status.{Status}
 use Rattle.ts_run.specs.declared.status.Status.TheVariants.{Done, No, Refused, Budget, ReadFault, WriteFault, Memory}
 use Rattle.ts_run.proofs.StreamLaws.{front_behind, front_of, front_on}

@@ -24,11 +24,6 @@ end_given bytes (Model line kind) r h is =
 end_given bytes (Judged v) r h is =
     model_replies Listed (model_part bytes) (IsVerified (certificate_lines bytes)) h.model r h.states (record { verdict = v; shown = h.shown; reply = is })
 
-pub ends_given : {E : Type 0} (bytes : List ℕ) (end : VerifyEnd) (given : Result GivenReply E) → IsVerifyEnd bytes end →
-    IfOk given (λ r. reply_of r ≡ end_reply end) → IfOk given (λ r. VerifyReply bytes (reply_of r))
-ends_given bytes end (Ok r) h is = end_given bytes end (reply_of r) h is
-ends_given bytes end (Err e) h is = tt
-
 -- the end of an input is the reply of `verify` to whatever bytes were fed
 pub end_told : {E : Type 0} (command : Command) (v : Verifying) (end : VerifyEnd) (given : Result GivenReply E) → command ≡ Verify →
     ((bytes : List ℕ) → HasFed bytes v → IsVerifyEnd bytes end) → IfOk given (λ r. reply_of r ≡ end_reply end) →

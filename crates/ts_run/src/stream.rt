@@ -1,9 +1,7 @@
 //! The loop that reads pieces of a stream, and writes what they owe before it reads on.
 
-ghost use Rattle.std.specs.Prelude.{ℕ, ◌≡◌, ◌≢◌, ◌<◌, ◌≤◌, List, [], ◌+◌, ◌++◌, length, take, vec_len, None, Some};
-ghost use Rattle.std.specs.Prelude.{IfOk, MatchResult, OnErr, OnOk, IsTrue};
+ghost use Rattle.std.specs.Prelude.{ℕ, ◌≡◌, ◌≢◌, ◌<◌, List, [], ◌+◌, ◌++◌, length, None, Some};
 ghost use Rattle.ts_base.specs.Limits.{too_many};
-ghost use Rattle.ts_base.specs.Outside.{AtEnd, Rose, one_more, put_back};
 ghost use Rattle.ts_run.specs.LiveEndings.{LiveEnds};
 ghost use Rattle.ts_run.specs.LiveSteps.{EndsBehind, PieceWell, Serves};
 ghost use Rattle.ts_run.specs.Streams.{IsStream};
