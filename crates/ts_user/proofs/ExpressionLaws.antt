@@ -1,6 +1,6 @@
 -- An expression that is read from its end is the one of the grammar.
 use Rattle.std.specs.Prelude.{◌≡◌, ◌↔◌, ℕ, take, drop, ◌+◌, ◌≤◌, ◌==◌, Bool, true, false, List, [], ◌∷◌, ◌++◌, nat_le, Option, Some, None, cond}
-use Rattle.std.proofs.Common.{◌-◌, length, refl, sym, ap, subst, ◌∙◌, arith, append_assoc, append-nil}
+use Rattle.std.proofs.Common.{length, refl, sym, ap, subst, ◌∙◌, arith, append_assoc, append-nil}
 use Rattle.std.proofs.lemmas.Option.{same_Some}
 use Rattle.std.proofs.lemmas.List.{take-append-drop}
 use Rattle.ts_base.specs.declared.letter.Letter.{Letter}

@@ -17,4 +17,3 @@ pub mod LineLaws
 pub mod TextLines
 pub mod FewWords
 pub mod Told
-pub mod EndLaws

@@ -43,19 +43,6 @@ shortest (Star r) h = ([], NoMore [] refl, refl)
 pub long_words : (p : Shape) (b a : ℕ) → has_short_word p b a ≡ false → HasLongWords p b a
 long_words p b a long w h = let n = no_shorter p w h in (grind arith, grind arith)
 
-pub none_short : (p : Shape) (b a : ℕ) → b ≤ 2 → a ≤ 1 → HasLongWords p b a → has_short_word p b a ≡ false
-none_short p b a few few' long = by (nat_lt (short_length p) (max 1 (b + a))) refl
-  where
-    by : (v : Bool) → nat_lt (short_length p) (max 1 (b + a)) ≡ v → nat_lt (short_length p) (max 1 (b + a)) ≡ false
-    by false e = e
-    by true e =
-        let x = shortest p (grind arith) in
-        let y = long x.0 x.1 in
-        let y0 = y.0 in
-        let y1 = y.1 in
-        let n = x.2 in
-        absurd (grind arith)
-
 one_is_short : (n k : ℕ) (w : List Letter) → length w ≡ n → n < max 1 k → (length w < k) ⊎ (w ≡ [])
 one_is_short n k [] e h = inr refl
 one_is_short n k (l ∷ w) e h = inl (grind arith)

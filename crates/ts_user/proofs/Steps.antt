@@ -1,6 +1,6 @@
 -- The step of a configuration by numbers of residuals that are found on the way is the step by the residuals
 -- themselves.
-use Rattle.std.specs.Prelude.{◌≡◌, ℕ, zero, suc, ◌+◌, ◌<◌, ◌≤◌, ◌==◌, Bool, true, false, cond, not, ◌&&◌, ◌||◌, List, [], ◌∷◌, ◌++◌, None, Some, map, take, length, get_or, slice_get, nat_eq, if◌then◌else◌, refl}
+use Rattle.std.specs.Prelude.{◌≡◌, ℕ, zero, suc, ◌+◌, ◌<◌, ◌≤◌, ◌==◌, Bool, true, false, cond, not, ◌&&◌, ◌||◌, List, [], ◌∷◌, ◌++◌, Some, map, take, length, get_or, slice_get, nat_eq, if◌then◌else◌, refl}
 use Rattle.std.specs.List.{list_all, list_any, AllByRecursion}
 use Rattle.std.proofs.Common.{sym, ◌∙◌, ap, subst, inl, inr, arith, ⊎_elim, take_all}
 use Rattle.std.proofs.lemmas.Bool.{false≢true, eqb-true, eq-eqb}
@@ -103,21 +103,6 @@ none_has n j q (e ∷ es) h = go (e.residual == j) refl (none_has n j q es h.1)
 -- what a letter leaves of the entry e
 abbrev left_of : List Shape → Letter → Live → Entry (Unit {0}) Shape Tag
 left_of rs l e = derive_entry shapes l (entry_value rs (plain_live e))
-
-pub added_none : (old new : List Shape) (l : Letter) (e : Live) (es : List Live) → AreListed old es →
-    IsAfter old new (residual (shape_at old e.residual) l) None → IsAdded old new l e es es
-added_none old new l e es h a =
-    subst (λ z. IsAdded old z l e es es) (sym a.1)
-    (record {
-      grows = grows_not old;
-      one_residual = omega arith;
-      one_entry = omega arith;
-      value =
-          ap (λ z. cond (z && not (list_any (λ (k : Entry (Unit {0}) Shape Tag). same_shape k.residual (residual (shape_at old e.residual) l)) (values old es)))
-          (values old es ++ left_of old l e ∷ []) (values old es)) (sym a.0);
-      listed = h;
-      numbered = λ n q. q;
-    })
 
 with_value : (old new : List Shape) (l : Letter) (e : Live) (es : List Live) (j : ℕ) → has_word (residual (shape_at old e.residual) l) ≡ true →
     Grows old new → IsNumberOf new (residual (shape_at old e.residual) l) j → AreListed old es →

@@ -37,9 +37,6 @@ length_push (v ∷ ws) w = let h = length_push ws w in omega (arith, h)
 
 -- those of one more place, where the one there is u with the letter l
 
-same_push : (u v : List Letter) (l m : Letter) → place (v ++ m ∷ []) ≡ place (u ++ l ∷ []) → (v ++ m ∷ []) ≡ (u ++ l ∷ [])
-same_push u v l m e = place_same (v ++ m ∷ []) (u ++ l ∷ []) e
-
 push_parts : (u v : List Letter) (l m : Letter) → place (v ++ m ∷ []) ≡ place (u ++ l ∷ []) → (v ≡ u) × (m ≡ l)
 push_parts u v l m e =
     let p = place_push v m in let q = place_push u l in let c = digit_bounds m in let d = digit_bounds l in
