@@ -1,21 +1,19 @@
 -- Lists of rows as a stack holds them: what a step with one of them makes of the stack.
-use Rattle.std.proofs.Common.{◌≡◌, ℕ, min, ◌+◌, ◌*◌, ◌<◌, ◌≤◌, ◌≢◌, ◌⊎◌, inl, inr, ℤ, List, [], ◌∷◌, ◌++◌, length, map, take, drop, set, get_or, refl, sym, ap, ◌∙◌, subst, arith}
+use Rattle.std.proofs.Common.{◌≡◌, ℕ, ◌+◌, ◌*◌, ◌<◌, ◌≤◌, ◌≢◌, ◌⊎◌, inl, inr, ℤ, List, [], ◌∷◌, ◌++◌, length, map, take, drop, set, get_or, refl, sym, ap, ◌∙◌, subst, arith}
 use Rattle.std.specs.Prelude.{All}
 use Rattle.std.specs.List.{slice_range}
 use Rattle.std.proofs.Math.ListN.{get_or-map}
 use Rattle.std.proofs.Math.Seq.{map-set_same}
-use Rattle.std.proofs.lemmas.List.{take-map, drop-map, get_or-map as get_or_mapped, get_or-take, get_or-append-add, take_all, get_or_append_left, get_or-set_same, get_or-set_other, map-append, map-set, length-map, length-take}
+use Rattle.std.proofs.lemmas.List.{take-map, drop-map, get_or-map as get_or_mapped, get_or-take, get_or-append-add, get_or_append_left, get_or-set_same, get_or-set_other, map-append, map-set, length-map, length-take}
 use Rattle.std.proofs.lemmas.List.Elements.{All-append, All-cons, All-get_or, All-take, All-drop}
-use Rattle.ts_row.proofs.Parts.{columns_reach}
 use Rattle.ts_bound.specs.declared.any_row.AnyRow.{AnyRow}
 use Rattle.ts_bound.specs.declared.gone.Gone.{Gone}
 use Rattle.ts_bound.specs.declared.planned.Planned.{Planned}
 use Rattle.ts_bound.specs.declared.row_stack.HullRow.{HullRow}
-use Rattle.ts_bound.specs.AnyRows.{columns, lanes_of, row_part}
-use Rattle.ts_bound.specs.RowStacks.{HasStates, IsFilled, IsLaid, IsTruncated, IsForgotten, IsLess, IsOneMore, IsShown, Kept, Laid, NoneKept, Rows, Stack, all_hulls, all_kept, hulls_in, kept_at, kept_in, nothing_kept, shown, values_in, with_row, without}
+use Rattle.ts_bound.specs.AnyRows.{columns, row_part}
+use Rattle.ts_bound.specs.RowStacks.{HasStates, IsFilled, IsLaid, IsLess, IsOneMore, IsShown, Kept, NoneKept, Stack, all_hulls, all_kept, hulls_in, kept_at, kept_in, nothing_kept, shown, values_in, with_row, without}
 use Rattle.ts_bound.specs.RowWindows.{AreForgotten, HasLost, Shows}
 use Rattle.ts_bound.proofs.LaidRows.{above_row, pushed, put_within, row_count, stack}
-use Rattle.ts_bound.proofs.RowParts.{front_of_front}
 use Rattle.ts_bound.proofs.WithoutValues.{made_part, made_without}
 
 -- what is shown of a row
@@ -30,11 +28,6 @@ shown_states p r row h is = ap (λ (a : AnyRow). length (columns a)) is ∙ (sho
 -- the row at a place
 pub laid_at : (p : Planned) (rows : List HullRow) (k : ℕ) (row : HullRow) → All (IsLaid p) rows → k < length rows → row ≡ get_or rows k row → IsLaid p row
 laid_at p rows k row laid lt is_row = subst (IsLaid p) (sym is_row) (All-get_or (IsLaid p) rows k row lt laid)
-
-pub laid_inside : (p : Planned) (r : HullRow) → IsLaid p r → All (λ column. r.to ≤ length column) (columns r.packed)
-laid_inside p r h =
-    let to = h.to in let count = h.count in
-    columns_reach (lanes_of r.packed) p.states (values_in r.packed) (columns r.packed) h.states.is_row r.to (omega (arith, to, count))
 
 pub laid_shows : (p : Planned) (now : List ℤ) (old new : HullRow) → IsLaid p old → Shows now old new → IsLaid p new
 laid_shows p now old new h z = record {
@@ -163,17 +156,6 @@ row_inside p rows k from s is le lt =
 
 -- the first rows stay known alone
 
-pub nothing_forgotten : (p : Planned) (rows : List HullRow) (k from count m : ℕ) (old : Stack) → held p rows k from ≡ old →
-    NoneKept m (all_kept p.states rows) → m ≤ count → IsForgotten count old old
-nothing_forgotten p rows k from count m old is none le =
-    subst (λ s. IsForgotten count s s) is (record {
-      planned = refl;
-      known = refl;
-      laid = refl;
-      kept = λ i few. refl;
-      none = λ i above. none i (omega (arith, above, le));
-    })
-
 module _ (p : Planned) (rows new : List HullRow) (k from count m : ℕ) (f : AreForgotten (count + 1) m rows new)
     (none : NoneKept m (all_kept p.states rows)) where
   none_above : NoneKept (count + 1) (all_kept p.states new)
@@ -186,43 +168,12 @@ module _ (p : Planned) (rows new : List HullRow) (k from count m : ℕ) (f : Are
       go (inl lt) = f.none p.states i above lt
       go (inr out) = ap (λ (w : Kept). w.values) (f.kept p.states i (inr out)) ∙ none i out
 
-  pub held_forgotten : (old : Stack) → held p rows k from ≡ old → IsForgotten count old (held p new k from)
-  held_forgotten old is =
-      subst (λ s. IsForgotten count s (held p new k from)) is (record {
-        planned = refl;
-        known = ap (take k) (f.hulls p.states);
-        laid = ap (λ (r : Rows). record { rows = r; from = from }) (f.hulls p.states);
-        kept = λ i few. f.kept p.states i (inl (omega (arith, few)));
-        none = none_above;
-      })
-
   pub forgotten_invariant : k ≤ length rows → All (IsLaid p) rows → m ≤ length rows → count < m →
       (k ≤ length new) × All (IsLaid p) new × (count + 1 ≤ length new) × NoneKept (count + 1) (all_kept p.states new)
   forgotten_invariant le laid within lt =
       let long = ap length (f.hulls p.states) in let here = length-map new (λ (r : HullRow). hulls_in p.states (shown r)) in
       let there = length-map rows (λ (r : HullRow). hulls_in p.states (shown r)) in
       (omega (arith, long, here, there, le), f.laid p laid, omega (arith, long, here, there, within, lt), none_above)
-
-pub held_cut : (p : Planned) (rows : List HullRow) (k from next count end : ℕ) (old mid : Stack) → IsForgotten count old mid → held p rows k from ≡ mid →
-    end ≤ next → (length rows ≤ k) ⊎ (from ≤ next) → IsTruncated count end old (held p rows (min k count) next)
-held_cut p rows k from next count end old mid f is to some =
-    let g : IsForgotten count old (held p rows k from) = subst (IsForgotten count old) (sym is) f in
-    let all = all_hulls p.states rows in
-    let least : min count k ≡ min k count = omega arith in record {
-      planned = g.planned;
-      known = ap (λ n. take n all) (sym least) ∙ sym (front_of_front all count k) ∙ ap (take count) g.known;
-      rows = ap (λ (l : Laid). l.rows) g.laid;
-      above = to;
-      from = go g some;
-      kept = g.kept;
-      none = g.none;
-    }
-  where
-    go : IsForgotten count old (held p rows k from) → (length rows ≤ k) ⊎ (from ≤ next) → (old.known ≡ old.laid.rows) ⊎ (old.laid.from ≤ next)
-    go g (inl le) =
-        let long = length-map rows (λ (r : HullRow). hulls_in p.states (shown r)) in
-        inl (sym g.known ∙ take_all k (all_hulls p.states rows) (omega (arith, long, le)) ∙ ap (λ (l : Laid). l.rows) g.laid)
-    go g (inr le) = let same = ap (λ (l : Laid). l.from) g.laid in inr (omega (arith, same, le))
 
 -- a row that has the same hulls as the one at a place
 pub standing_row : (s k : ℕ) (rows : List HullRow) (here d row : HullRow) → here ≡ get_or rows k d → shown here ≡ shown row →

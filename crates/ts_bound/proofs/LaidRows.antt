@@ -1,6 +1,5 @@
 -- Rows above those that are known: what a change leaves of them, and when they are known too.
 use Rattle.std.proofs.Common.{◌≡◌, ℕ, zero, suc, ◌+◌, ◌-◌, ◌*◌, ◌<◌, ◌≤◌, ◌≢◌, ◌⊎◌, inl, inr, ℤ, List, [], ◌∷◌, ◌++◌, length, take, drop, reverse, set, get_or, Option, Some, None, refl, sym, ap, ◌∙◌, subst, arith}
-use Rattle.std.specs.Prelude.{Result, Ok, Err, OnOk, OnErr}
 use Rattle.std.specs.List.{remove_range, slice_range}
 use Rattle.std.proofs.lemmas.List.{append_assoc, get_or_default, take_at, take_more, take_all, take-take, set_split, get_or-take, get_or-drop, get_or-append-add, length-append, length-take, length-drop}
 use Rattle.ts_automaton.specs.declared.regs.Hull.{Hull}
@@ -236,11 +235,6 @@ module _ (old cut : Stack) (count end : ℕ) (known : IsKnownAt count old) (f : 
 
   pub row_above : length cut.known < length cut.laid.rows
   row_above = let rest = ap length f.rows in let here = are_left in let more = known.laid in omega (arith, here, rest, more)
-
--- a result in either case
-pub either_way : {T E : Type 0} (r : Result T E) (P Q G : Type 0) → OnOk r P → OnErr r Q → (P → G) → (Q → G) → G
-either_way (Ok x) P Q G p q f g = f p
-either_way (Err e) P Q G p q f g = g q
 
 -- what is kept of a row, or was shown of it, without values that are gone, is right
 

@@ -16,9 +16,6 @@ pub record IsWritten (first all : List Hull) (p : ℕ) (row : List Hull) : Type 
   pub long : length row ≡ length first
   pub each : (k : ℕ) → k < p → get_or row k none ≡ get_or all k none
 
-pub written_none : (first all : List Hull) → IsWritten first all 0 first
-written_none first all = record { long = refl; each = λ k lt. absurd (omega (arith, lt)) }
-
 before_or : (j i : ℕ) → j < i + 1 → (j < i) ⊎ (j ≡ i)
 before_or j i h = grind arith
 

@@ -14,7 +14,7 @@ use Rattle.ts_hull.specs.Sweeps.{compares, hull_in, move_entry, pair_gives}
 use Rattle.ts_hull.proofs.Sums.{total_same}
 use Rattle.ts_sweep.specs.Columns.{gives}
 use Rattle.ts_sweep.specs.Sides.{Sides, BothEnds, seen_hull}
-use Rattle.ts_sweep.proofs.SeenLaws.{all_seen, none_seen}
+use Rattle.ts_sweep.proofs.SeenLaws.{none_seen}
 use Rattle.ts_row.specs.Rows.{state_gives, next_hull as next_packed}
 use Rattle.ts_row.proofs.SeenRows.{next_seen}
 use Rattle.ts_bound.specs.NextRow.{sources, states_of, next_hull, next_hulls, next_row}
@@ -92,9 +92,3 @@ row_seen s b rules alone us row vs long =
     let seen_one : ℤ → ℕ → Hull = λ w t. seen_hull s (next_hull b (sources n us row) w t) in
     flat_seen s (next_hull b (sources n us (seen_row s row))) seen_one (states_of b) vs (λ w t. hull_seen s b rules alone us row w t long)
     ∙ sym (flat_seen s (next_hull b (sources n us row)) seen_one (states_of b) vs (λ w t. refl))
-
--- where both ends are kept, all is seen
-pub all_row_seen : (s : Sides) (row : List Hull) → s ≡ BothEnds → seen_row s row ≡ row
-all_row_seen s [] both = refl
-all_row_seen s (h ∷ row) both =
-    ap (λ z. z ∷ seen_row s row) (all_seen s h both) ∙ ap (λ zs. h ∷ zs) (all_row_seen s row both)

@@ -39,7 +39,7 @@ use Rattle.ts_meet.specs.Meets.{hull_of_spans}
 use Rattle.ts_bound.specs.Blocks.{standing_of, finishes, glued_with, glued_all, back_hulls, back_states, split_at, last_at}
 use Rattle.ts_bound.specs.Looks.{is_looked, read_at, place_in}
 use Rattle.ts_hull.proofs.HullLaws.{IsCanonical, hull_canonical}
-use Rattle.ts_bound.proofs.Looking.{looked_length, looked_get, place_end, place_read, read_inside_box}
+use Rattle.ts_bound.proofs.Looking.{looked_get, place_read, read_inside_box}
 use Rattle.ts_bound.proofs.SpanRuns.{none_some, same_some}
 
 -- lists over a range that agree at each place
@@ -163,9 +163,6 @@ pub last_value_ends : (m : Automata) → AreAutomata m → (k : ℕ) (cells : Li
     last_at m.forward k cells v ≡ inner_value_span m k cells v
 last_value_ends m are k cells v last = last_is m are k cells last v
 
-pub place_last : (m : Automata) (p : ℕ) (cells : List (List ℤ)) → LooksIn m cells → p ≡ length cells → place_in m.window p ≡ length (looked_at m.window cells)
-place_last m p cells looks last = ap (place_in m.window) last ∙ place_end m.window (length cells) looks ∙ sym (looked_length m.window cells looks)
-
 -- what the type of a machine keeps
 
 pub pair_is : (m : Machine) → IsPairOf (forward_of m) (pair_of m)
@@ -197,9 +194,6 @@ module _ (m : Automata) (k p : ℕ) (cells : List (List ℤ)) (looks : LooksIn m
 
   place_same : place_in m.window k ≡ place_in m.window p
   place_same = ap (place_in m.window) read ∙ place_read m.window (length cells) p looks some few
-
-  pub read_last : p ≡ length cells → place_in m.window k ≡ length (looked_at m.window cells)
-  read_last last = place_same ∙ place_last m p cells looks last
 
   -- all values of it were taken in
   pub term_taken : (i : ℕ) (span : Span) → length (values_at k cells) ≤ i →
