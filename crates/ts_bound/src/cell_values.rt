@@ -103,7 +103,7 @@ impl CellValues {
 
     /// Takes the values of another domain, in the same memory. After `Memory` there is no value.
     #[tactic(auto, using(crate::proofs::ValueLaws::domain_end, crate::proofs::ValueLaws::domain_few))]
-    pub fn reset(&mut self, domain: &Domain) -> Result<(), Memory>
+    pub(crate) fn reset(&mut self, domain: &Domain) -> Result<(), Memory>
         ensures values { IfOk result (λ u. self.new ≡ domain.now) }
         ensures emptied { OnErr result (self.new ≡ []) }
     {
