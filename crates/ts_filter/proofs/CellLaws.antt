@@ -1,8 +1,8 @@
 -- The spans of a cell from its rows: the hulls of one value, and the hull of the spans of all values.
-use Rattle.std.proofs.Common.{◌≡◌, ℕ, zero, suc, ◌+◌, ◌*◌, ◌-◌, ◌<◌, ◌≤◌, ℤ, pos, List, [], ◌∷◌, ◌++◌, get_or, length, map, take, drop, slice_get, Some, refl, sym, ap, ◌∙◌, subst, arith}
-use Rattle.std.specs.Prelude.{flat_map, slice_range}
+use Rattle.std.proofs.Common.{◌≡◌, ℕ, zero, suc, ◌+◌, ◌*◌, ◌-◌, ◌<◌, ◌≤◌, ℤ, pos, List, [], ◌∷◌, ◌++◌, get_or, length, map, take, drop, slice_get, Option, Some, refl, sym, ap, ◌∙◌, subst, arith}
+use Rattle.std.specs.Prelude.{IfSome, flat_map, slice_range}
 use Rattle.std.specs.List.{AllByRecursion}
-use Rattle.std.proofs.lemmas.List.{take_at, drop_at, drop-drop, take_more, drop_more, map-append}
+use Rattle.std.proofs.lemmas.List.{take_at, drop_at, drop-drop, take_more, drop_more, length-drop, map-append}
 use Rattle.std.proofs.lemmas.List.Sums.{fold-append}
 use Rattle.std.proofs.lemmas.Option.{none-some, same_Some, get_or_from_slice_get}
 use Rattle.ts_base.specs.declared.span.Span.{Span}
@@ -87,3 +87,18 @@ not_last (suc i) (suc n) below more = let later = not_last i n (omega (arith, be
 
 pub left_is : (values : List ℤ) (i : ℕ) (x : ℤ) → i < length values → slice_get values i ≡ Some x → drop i values ≡ x ∷ drop (i + 1) values
 left_is values i x lt e = drop_more values i x lt ∙ ap (λ y. y ∷ drop (i + 1) values) (get_or_from_slice_get values i x x e)
+
+-- some values are still to come before the end
+pub some_left : (values rest : List ℤ) (i : ℕ) → i < length values → rest ≡ drop i values → 0 < length rest
+some_left values rest i lt is = let long = length-drop i values in let same = ap length is in omega (arith, lt, long, same)
+
+-- what is known of a walk that goes on from the place after the last one
+pub walk_goes_on : (values : List ℤ) (last i : ℕ) (walk : Option (List ℤ)) (rest : List ℤ) → IfSome walk (λ w. w ≡ drop (last + 1) values) →
+    walk ≡ Some rest → i ≡ last + 1 → rest ≡ drop i values
+walk_goes_on values last i walk rest h is next =
+    subst (λ o. IfSome o (λ w. w ≡ drop (last + 1) values)) is h ∙ ap (λ n. drop n values) (sym next)
+
+-- its first value, and what comes after that
+pub walk_given : (values rest after : List ℤ) (i : ℕ) (v : ℤ) → rest ≡ drop i values → rest ≡ v ∷ after →
+    (slice_get values i ≡ Some v) × (after ≡ drop (i + 1) values)
+walk_given values rest after i v is e = let step = walk_step values i v after (sym is ∙ e) in (step.1, step.2)

@@ -23,6 +23,7 @@ use crate::cell_hulls::CellHulls;
 use crate::courses::{Course, Step, first_asked};
 use crate::held_machine::HeldMachine;
 use crate::kept_cells::{KeptTerm, is_alive, spared_to};
+use crate::placed_values::PlacedValues;
 use crate::question::Question;
 use crate::spares::{NothingSpared, Spares, Told};
 use crate::term_requirements::TermRequirements;
@@ -340,12 +341,13 @@ fn drop_in_cell<S: Spares>(
     if size < 2 {
         return (None, count);
     }
+    let mut placed = PlacedValues::new(values);
     let mut i = count_up_to(values, limit, 0);
     while i < size {
-        let value = values.nth(i);
+        let value = placed.at(i);
         let told = told_of(hulls, own, value, spares);
-        let to = count_up_to(values, told.to, i + 1);
-        let (found, more) = first_between(hulls, asked, own, i, to, told.free);
+        let to = count_told(values, size, i, value, told.to);
+        let (found, more) = first_between(hulls, asked, own, &mut placed, value, i, to, told.free);
         count = count.wrapping_add(more);
         if found.is_some() {
             return (found, count);
@@ -401,10 +403,13 @@ fn told_of<S: Spares>(hulls: &CellHulls<'_>, own: TermRequirements<'_>, v: i64, 
 /// The first of the drops at one cell, if it is of a value at the places from `from` on, before `to`; none is of one
 /// before these. And of how many values spans are asked: of none where it is known that none before `to` is dropped.
 /// Most are passed over without being found: pairs of states settle that none of the requirements is refuted there.
+/// `first` is the value at place `from`.
 fn first_between(
     hulls: &CellHulls<'_>,
     asked: Question<'_>,
     own: TermRequirements<'_>,
+    placed: &mut PlacedValues<'_>,
+    first: i64,
     from: u64,
     to: u64,
     free: bool,
@@ -415,21 +420,23 @@ fn first_between(
     requires asked { AsksEach own asked }
     requires order { from ≤ to }
     requires inside { to ≤ length (values_at hulls.now.cell hulls.now.cells) }
+    requires placed { placed.old ≡ values_at hulls.now.cell hulls.now.cells }
+    requires first { slice_get (values_at hulls.now.cell hulls.now.cells) from ≡ Some first }
     requires left { AreLeft own.all.now own.term hulls.now.machine hulls.now.cells hulls.now.cell
         (drop from (values_at hulls.now.cell hulls.now.cells)) }
     requires free { IsTrue free → AreLeft own.all.now own.term hulls.now.machine hulls.now.cells hulls.now.cell
         (drop to (values_at hulls.now.cell hulls.now.cells)) }
-    ensures { IsFirstOrLeft own.entry.all.now own.entry.term hulls.now.machine hulls.now.cells hulls.now.cell
+    ensures placed { placed.new ≡ placed.old }
+    ensures found { IsFirstOrLeft own.entry.all.now own.entry.term hulls.now.machine hulls.now.cells hulls.now.cell
         (drop to (values_at hulls.now.cell hulls.now.cells)) result.0 }
 {
     if free {
         return (None, 0);
     }
     let count = to - from;
-    let values = hulls.values();
     let mut i = hulls.settled_to(asked, from, to);
     while i < to {
-        let value = values.nth(i);
+        let value = value_at(placed, i, from, first);
         if let Some(require) = hulls.first_refuted(asked, own, i, value) {
             let drop = Removal {
                 cell: hulls.cell(),
@@ -441,6 +448,38 @@ fn first_between(
         i = hulls.settled_further(asked, i + 1, to);
     }
     (None, count)
+}
+
+/// The value at place `i`, where that at place `from` is known.
+fn value_at(placed: &mut PlacedValues<'_>, i: u64, from: u64, known: i64) -> i64
+    requires inside { i < length placed.old }
+    requires known { slice_get placed.old from ≡ Some known }
+    ensures same { placed.new ≡ placed.old }
+    ensures value { slice_get placed.old i ≡ Some result }
+{
+    if i == from {
+        return known;
+    }
+    placed.at(i)
+}
+
+/// How many values come first that are at most `to`, as that at place `i` is. Where a value is told of alone, that is
+/// `to`, and no place is searched for.
+fn count_told(values: &Domain, size: u64, i: u64, value: i64, to: i64) -> u64
+    requires domain { IsDomain values.now }
+    requires size { size ≡ length values.now }
+    requires value { slice_get values.now i ≡ Some value }
+    requires up { value ≤ℤ to }
+    ensures more { i < result }
+    ensures to { result ≤ length values.now }
+    ensures below { (j : ℕ) (v : ℤ) → j < result → slice_get values.now j ≡ Some v → v ≤ℤ to }
+{
+    // the place fits, as the number of values does
+    let _size = size;
+    if value == to {
+        return i + 1;
+    }
+    count_up_to(values, to, i + 1)
 }
 
 /// How many values come first that are at most the limit, as the first `known` ones are. It may lie in a gap between

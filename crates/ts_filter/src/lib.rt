@@ -46,6 +46,7 @@ mod kept_cells;
 pub mod laws;
 mod many_values;
 mod meeting;
+mod placed_values;
 mod question;
 mod so_far;
 mod spares;

@@ -1,4 +1,4 @@
-use Rattle.std.proofs.Common.{◌≤◌, ◌-◌, drop}
+use Rattle.std.proofs.Common.{◌≡◌, ◌≤◌, ◌-◌, drop}
 use Rattle.ts_filter.specs.Boxes.{values_at}
 use Rattle.ts_filter.specs.TermDrops.{AreLeft}
 use Rattle.ts_filter.proofs.drops.first_between.Given as goal
@@ -7,6 +7,7 @@ abbrev pub invariant-loop-i : goal.invariant-loop-i
 invariant-loop-i l =
     (l.i ≤ l.to)
     × AreLeft l.own.all.now l.own.term l.hulls.machine l.hulls.cells l.hulls.cell (drop l.i (values_at l.hulls.cell l.hulls.cells))
+    × (l.placed ≡ values_at l.hulls.cell l.hulls.cells)
 
 abbrev pub decreases-loop-i : goal.decreases-loop-i
 decreases-loop-i l = l.to - l.i
