@@ -78,7 +78,7 @@ module _ (p : Pair) (q r : ℕ) (x : ℤ) where
 
 -- what a table of shapes tells of a pair of states
 pub gluing_is : (t : Shapes) (g : Gluing) (left right : ℕ) (x : ℤ) → g.result ≡ t.result → g.fold ≡ t.fold → g.worth ≡ worth t.unit x →
-    g.shape ≡ shape_at t left right → (p : Pair) → AreShapes p t → left < length p.forward.states → right < length p.reverse.states →
+    g.shape ≡ shape_at t.rows left right → (p : Pair) → AreShapes p t → left < length p.forward.states → right < length p.reverse.states →
     expression g ≡ glue_of p left right x
 gluing_is t g left right x er ef ew es p h l r =
     ap (λ z. glue_by z g.fold g.worth g.shape) (er ∙ h.0)
@@ -131,6 +131,11 @@ gluing_of_pair m h e u left right x tells l r =
     (subst
     (λ o. IfSome (option_map (λ (p : Pair). p.reverse) (option_map (λ (i : Half). pair m.forward i.reverse (table_view i.table)) o))
     (λ b. right < length b.states)) e r))
+
+-- and the shapes of a machine are those of its pair
+pub shapes_of_pair : (m : Machine) (h : Half) → m.half ≡ Some h → IfSome (pair_of m) (λ p. AreShapes p h.shapes)
+shapes_of_pair m h e =
+    subst (λ o. IfSome (option_map (λ (i : Half). pair m.forward i.reverse (table_view i.table)) o) (λ p. AreShapes p h.shapes)) (sym e) (m.shapes h e)
 
 -- the forward automaton of its pair is the machine's
 pub forward_in_pair : (m : Machine) → IfSome (pair_of m) (λ p. p.forward ≡ forward_of m)

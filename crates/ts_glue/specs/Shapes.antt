@@ -1,6 +1,6 @@
 -- How the two runs of a machine are glued, pair of states by pair of states: the expression at a cell follows from the
 -- shape of the pair and from what the cell is worth.
-use Rattle.std.specs.Prelude.{◌≡◌, ◌<◌, ℕ, ℤ, zero, suc, Bool, if◌then◌else◌, List, [], get_or, length}
+use Rattle.std.specs.Prelude.{◌≡◌, ◌<◌, ℕ, ℤ, zero, suc, Bool, true, false, if◌then◌else◌, List, [], get_or, length}
 use Rattle.ts_base.specs.declared.op.Op.{Op}
 use Rattle.ts_automaton.specs.Body.{node_at}
 use Rattle.ts_glue.specs.declared.gluing.Gluing.{Gluing}
@@ -39,12 +39,21 @@ shape_of p q r =
     then Through (seam_of p.table.a (node_at p.forward.states q).held (node_at p.reverse.states r).held)
     else Apart
 
-abbrev pub shape_at : Shapes → ℕ → ℕ → Shape
-shape_at t q r = get_or (get_or t.rows q []) r Apart
+-- one occurrence goes on
+abbrev pub goes_on : Shape → Bool
+goes_on Apart = false
+goes_on (Through seam) = true
+
+abbrev pub shape_at : List (List Shape) → ℕ → ℕ → Shape
+shape_at rows q r = get_or (get_or rows q []) r Apart
 
 -- the row has the shapes of the forward state q
 abbrev pub AreShapesOf : Pair → ℕ → List Shape → Type 0
 AreShapesOf p q row = (r : ℕ) → r < length p.reverse.states → get_or row r Apart ≡ shape_of p q r
+
+-- each forward state has the row of its shapes
+abbrev pub AreShapeRows : Pair → List (List Shape) → Type 0
+AreShapeRows p rows = (q : ℕ) → q < length p.forward.states → AreShapesOf p q (get_or rows q [])
 
 -- they are the shapes of the pair, with its operators and its unit
 abbrev pub AreShapes : Pair → Shapes → Type 0
@@ -52,4 +61,4 @@ AreShapes p t =
     (t.result ≡ result_op p)
     × (t.fold ≡ p.table.op)
     × (t.unit ≡ p.table.unit)
-    × ((q : ℕ) → q < length p.forward.states → AreShapesOf p q (get_or t.rows q []))
+    × AreShapeRows p t.rows

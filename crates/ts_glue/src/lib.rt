@@ -22,5 +22,5 @@ mod table;
 pub use glue::{glue_span, glue_value};
 pub use machine::Machine;
 pub use operand::Part;
-pub use shape::first_op;
+pub use shape::{STATES, Seam, Shape, Shapes};
 pub use table::{CellUnit, FoldOp, GlueTable};

@@ -121,6 +121,17 @@ impl Machine {
         }
     }
 
+    /// How its runs are glued, by the states in which they stand.
+    pub fn shapes(&self) -> &Shapes
+        requires split { IsSome (pair_of self.now) }
+        ensures { IfSome (pair_of self.now) (λ p. AreShapes p result.now) }
+    {
+        match &self.half {
+            Some(half) => &half.shapes,
+            None => unreachable!(),
+        }
+    }
+
     /// Its forward automaton.
     pub fn forward(&self) -> &Automaton
         ensures { result.now ≡ forward_of self.now }

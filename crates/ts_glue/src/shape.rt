@@ -6,7 +6,7 @@ ghost use Rattle.ts_automaton.specs.Formula.{formula};
 ghost use Rattle.ts_base.specs.Limits.{IsCellValue};
 ghost use Rattle.ts_glue.specs.Glue.{first_op, fold_op, glue_of, is_join, is_pair, worth};
 ghost use Rattle.ts_glue.specs.Pairs.{Pair, pair, table_view};
-ghost use Rattle.ts_glue.specs.Shapes.{AreShapes, AreShapesOf, expression, shape_at, shape_of};
+ghost use Rattle.ts_glue.specs.Shapes.{AreShapes, AreShapesOf, expression, goes_on, shape_at, shape_of};
 ghost use Rattle.ts_glue.specs.declared.shape.Shape.TheVariants.{Apart as NoJoin};
 
 use crate::gluing::Gluing;
@@ -14,7 +14,7 @@ use crate::table::{CellUnit, FoldOp, GlueTable};
 use ts_automaton::{Automaton, Expr, Op};
 
 /// The most states that an automaton has.
-const STATES: usize = 8;
+pub const STATES: usize = 8;
 
 /// How the values of two runs are glued at a cell, by the states in which they stand.
 #[derive(Clone, Copy)]
@@ -34,6 +34,19 @@ pub enum Seam {
     Both,
 }
 
+impl Shape {
+    /// Whether one occurrence goes on.
+    #[inline(always)]
+    pub fn goes_on(self) -> bool
+        ensures { result ≡ goes_on self }
+    {
+        match self {
+            Shape::Apart => false,
+            Shape::Through(_) => true,
+        }
+    }
+}
+
 /// How the two runs of a machine are glued: the operator that joins results, how the cells of an occurrence are folded,
 /// what a cell is worth in it, and the shape of each pair of states.
 #[derive(Drop)]
@@ -41,7 +54,7 @@ pub struct Shapes {
     pub result: Op,
     pub fold: FoldOp,
     pub unit: CellUnit,
-    pub(crate) rows: [[Shape; STATES]; STATES],
+    pub rows: [[Shape; STATES]; STATES],
 }
 
 impl Shapes {
@@ -79,10 +92,10 @@ impl Shapes {
     }
 
     /// The shape where the forward run stands in the state `left`, the reverse run in the state `right`.
-    pub fn at(&self, left: u8, right: u8) -> Shape
+    fn at(&self, left: u8, right: u8) -> Shape
         requires left { left < 8 }
         requires right { right < 8 }
-        ensures { result ≡ shape_at self.now left right }
+        ensures { result ≡ shape_at self.now.rows left right }
     {
         self.rows[left as usize][right as usize]
     }
@@ -121,7 +134,7 @@ fn shape_of(forward: &Automaton, reverse: &Automaton, table: &GlueTable, q: u8, 
 
 impl GlueTable {
     /// Whether one occurrence goes on from the forward state to the reverse one.
-    pub fn is_join(&self, forward: u8, reverse: u8) -> bool
+    fn is_join(&self, forward: u8, reverse: u8) -> bool
         ensures { result ≡ is_join (table_view self.now) forward reverse }
     {
         self.joins
@@ -166,7 +179,7 @@ impl CellUnit {
 }
 
 /// The operator with which a finish expression begins.
-pub fn first_op(finish: &Expr) -> Op
+fn first_op(finish: &Expr) -> Op
     ensures { result ≡ first_op (formula finish.now) }
 {
     match finish {

@@ -1,7 +1,7 @@
 -- What is glued of ends stands for what is glued of spans; where sums are plain, they meet small numbers.
 use mir.Val.{SFits}
 use Rattle.std.specs.Int.{int_max, int_min}
-use Rattle.std.proofs.Common.{◌≡◌, ◌⊎◌, inl, inr, ℕ, zero, suc, ◌+◌, ◌*◌, ◌≤◌, ◌<◌, ◌≤ℤ◌, ◌<ℤ◌, ℤ, pos, negsuc, neg_ℤ, Bool, true, false, cond, ◌||◌, nat_lt, w64, List, [], ◌∷◌, get_or, refl, sym, ap, subst, ◌∙◌, arith, rules}
+use Rattle.std.proofs.Common.{◌≡◌, ◌⊎◌, inl, inr, ℕ, zero, suc, ◌+◌, ◌*◌, ◌≤◌, ◌<◌, ◌≤ℤ◌, ◌<ℤ◌, ℤ, pos, negsuc, neg_ℤ, Bool, true, false, cond, ◌||◌, w64, List, [], ◌∷◌, get_or, refl, sym, ap, subst, ◌∙◌, arith, rules}
 use Rattle.std.proofs.lemmas.Int.{ints}
 use Rattle.ts_base.specs.declared.ext.Ext.TheVariants.{Int}
 use Rattle.ts_base.specs.declared.op.Op.{Op}
@@ -18,7 +18,12 @@ use Rattle.ts_automaton.specs.Registers.{EachOf, Takes, Values, value_in}
 use Rattle.ts_glue.specs.declared.operand.Part.{Part}
 use Rattle.ts_glue.specs.declared.operand.Part.TheVariants.{Whole, Away}
 use Rattle.ts_glue.specs.Glue.{Glue, Left, Right, Number, With, GlueTakes, apart, counted_once, fold_of, fold_op, folded_between, folded_both, glue_in, glue_of, held_in, is_join, is_wide, join_of, open_in, opened, part_of, result_of, result_op, then_opened, worth}
+use Rattle.ts_glue.specs.declared.shape.Seam.{Seam}
+use Rattle.ts_glue.specs.declared.shape.Shape.{Shape}
+use Rattle.ts_glue.specs.declared.shape.Shape.TheVariants.{Apart as NoJoin, Through}
 use Rattle.ts_glue.specs.Pairs.{Pair}
+use Rattle.ts_glue.specs.Shapes.{glue_by, goes_on, seam_of, shape_of}
+use Rattle.ts_glue.proofs.Calls.{shape_is}
 use Rattle.ts_hull.specs.Sealed.{sealed_op, sealed_spans}
 use Rattle.ts_sweep.specs.declared.packed.Ends.{Ends}
 use Rattle.ts_sweep.specs.declared.packed.Name.TheVariants.{C as NameC}
@@ -30,7 +35,7 @@ use Rattle.ts_sweep.specs.Operators.{crossed, sum_of_ends}
 use Rattle.ts_sweep.specs.Packed.{AreSome, AreWithin, IsPackOf, IsSomeEnds, IsWithin, register_span}
 use Rattle.ts_sweep.specs.PackedLaws.{same_ends}
 use Rattle.ts_meet.specs.declared.gluing.Gluing.{Gluing}
-use Rattle.ts_meet.specs.Joints.{IsFoldPlain, IsHeldPlain, IsOpenPlain, IsPlain, expression, folds_held, held_ends, is_add, joined_expression, leaves_out, once, open_ends, part_by}
+use Rattle.ts_meet.specs.Joints.{IsFoldPlain, IsHeldPlain, IsOpenPlain, IsPlain, expression, folds_held, held_ends, is_add, joined_expression, once, open_ends, part_by}
 use Rattle.ts_meet.specs.SideLaws.{cell_within, far_infinity, near_small}
 use Rattle.ts_meet.specs.Sides.{AreSomeEnds, ArePackOf, IsNeutral, TakesAny, TakesNear, TakesPlain, is_far, plain_by, plain_values}
 
@@ -662,10 +667,6 @@ unheld_answer o s f g some n =
     (ap (λ b. plain_by (Fold o) s.r (cond b s.c (sum_of_ends s.c (crossed s.e)))) (neutral_far o s.c n)
     ∙ neutral_kept o s.r s.c f g some n)
 
-pub trims_is : (a : ℕ) → nat_lt 0 a ≡ leaves_out a
-trims_is zero = refl
-trims_is (suc a) = grind arith
-
 -- what lies on both sides of a cell, folded step by step
 
 module _ (m : Values Ends) (P : Operator → Ends → Ends → Type 0) (a b : EachOf Ends) (o : Op) where
@@ -744,43 +745,27 @@ known_joined f g a b e is joins p =
 
 -- how a pair of states is glued is its expression
 
-part_is : (a : ℕ) (l r : Bool) (d : ℤ) (o : Op) (p : Part) → folded o p d (leaves_out a) l r ≡ part_of a l r d o p
-part_is zero l r d o p = refl
-part_is (suc a) l r d o p = refl
+-- where one occurrence goes on, by its seam
 
-parts_are : (wide : Bool) (a : ℕ) (l r : Bool) (d : ℤ) (o : Op) →
-    fold_of wide o (λ z p. folded z p d (leaves_out a) l r) ≡ fold_of wide o (part_of a l r d)
-parts_are false a l r d o = part_is a l r d o Whole
-parts_are true a l r d o =
-    ap (λ z. With Sub z (folded Min Away d (leaves_out a) l r)) (part_is a l r d o Whole) ∙ ap (With Sub (part_of a l r d o Whole)) (part_is a l r d Min Away)
+pub seam_told : (p : Pair) (q r : ℕ) (x d : ℤ) (s : Seam) (u : Glue) (o : Op) → o ≡ result_op p → d ≡ worth p.table.unit x →
+    Through s ≡ shape_of p q r → u ≡ glue_by o p.table.op d (Through s) → u ≡ glue_of p q r x
+seam_told p q r x d s u o e f is told =
+    told
+    ∙ ap (λ z. glue_by z p.table.op d (Through s)) e ∙ ap (λ z. glue_by (result_op p) p.table.op z (Through s)) f
+    ∙ ap (glue_by (result_op p) p.table.op (worth p.table.unit x)) is ∙ shape_is p q r x
 
-abbrev expression_of : (g o : Op) (wide joins trims l r : Bool) (d : ℤ) → Glue
-expression_of g o wide joins trims l r d = cond joins (join_of g (fold_of wide o (λ z p. folded z p d trims l r))) (apart wide g)
+-- whether one goes on is in the shape
 
-pub gluing_is : (p : Pair) (q r : ℕ) (x : ℤ) (g : Gluing) → g.result ≡ result_op p → g.fold ≡ fold_op p.table.op → g.wide ≡ is_wide p →
-    g.worth ≡ worth p.table.unit x → g.joins ≡ is_join p.table q r → g.trims ≡ leaves_out p.table.a → g.held_left ≡ (node_at p.forward.states q).held →
-    g.held_right ≡ (node_at p.reverse.states r).held → expression g ≡ glue_of p q r x
-gluing_is p q r x g e1 e2 e3 e4 e5 e6 e7 e8 =
-    let l = (node_at p.forward.states q).held in let h = (node_at p.reverse.states r).held in
-    let d = worth p.table.unit x in let o = fold_op p.table.op in
-    expression_is g
-    ∙ ap (λ z. expression_of z g.fold g.wide g.joins g.trims g.held_left g.held_right g.worth) e1
-    ∙ ap (λ z. expression_of (result_op p) z g.wide g.joins g.trims g.held_left g.held_right g.worth) e2
-    ∙ ap (λ z. expression_of (result_op p) o z g.joins g.trims g.held_left g.held_right g.worth) e3
-    ∙ ap (λ z. expression_of (result_op p) o (is_wide p) z g.trims g.held_left g.held_right g.worth) e5
-    ∙ ap (λ z. expression_of (result_op p) o (is_wide p) (is_join p.table q r) z g.held_left g.held_right g.worth) e6
-    ∙ ap (λ z. expression_of (result_op p) o (is_wide p) (is_join p.table q r) (leaves_out p.table.a) z g.held_right g.worth) e7
-    ∙ ap (λ z. expression_of (result_op p) o (is_wide p) (is_join p.table q r) (leaves_out p.table.a) l z g.worth) e8
-    ∙ ap (λ z. expression_of (result_op p) o (is_wide p) (is_join p.table q r) (leaves_out p.table.a) l h z) e4
-    ∙ ap (λ z. cond (is_join p.table q r) (join_of (result_op p) z) (apart (is_wide p) (result_op p))) (parts_are (is_wide p) p.table.a l h d o)
+pub goes_on_is : (p : Pair) (q r : ℕ) → goes_on (shape_of p q r) ≡ is_join p.table q r
+goes_on_is p q r = go (is_join p.table q r)
   where
-    by_width : (g : Gluing) (wide : Bool) → fold_of wide g.fold (part_by g)
-        ≡ fold_of wide g.fold (λ z p. folded z p g.worth g.trims g.held_left g.held_right)
-    by_width g true = refl
-    by_width g false = refl
+    go : (b : Bool) →
+        goes_on (cond b (Through (seam_of p.table.a (node_at p.forward.states q).held (node_at p.reverse.states r).held)) NoJoin) ≡ b
+    go true = refl
+    go false = refl
 
-    expression_is : (g : Gluing) → expression g ≡ expression_of g.result g.fold g.wide g.joins g.trims g.held_left g.held_right g.worth
-    expression_is g = ap (λ z. cond g.joins (join_of g.result z) (apart g.wide g.result)) (by_width g g.wide)
+pub none_goes_on : (p : Pair) (q r : ℕ) (s : Shape) → s ≡ shape_of p q r → s ≡ NoJoin → is_join p.table q r ≡ false
+none_goes_on p q r s is none = sym (goes_on_is p q r) ∙ ap goes_on (sym is) ∙ ap goes_on none
 
 -- between states from the one of which no occurrence goes on to the other the value isn't in it
 pub apart_is : (p : Pair) (q r : ℕ) (x : ℤ) (g : Gluing) → g.result ≡ result_op p → g.wide ≡ is_wide p → g.joins ≡ false → is_join p.table q r ≡ false →

@@ -1,16 +1,16 @@
 -- How the two runs of a machine are glued, found once for a machine.
-use Rattle.std.specs.Prelude.{◌≡◌, ◌⊎◌, ◌<◌, ◌≤ℤ◌, ℕ, pos, zero, suc, nat_eq, ℤ, Bool, true, false, ◌||◌, List, [], get_or, length, if◌then◌else◌}
+use Rattle.std.specs.Prelude.{◌≡◌, ◌⊎◌, ◌≤ℤ◌, ℕ, pos, nat_eq, ℤ, Bool, true, false, ◌||◌, length, if◌then◌else◌}
 use Rattle.ts_base.specs.declared.op.Op.{Op}
 use Rattle.ts_base.specs.declared.op.Op.TheVariants.{Add, Max, Min}
-use Rattle.ts_automaton.specs.Body.{node_at}
 use Rattle.ts_automaton.specs.declared.state.Mark.{Mark}
 use Rattle.ts_automaton.specs.declared.state.Mark.TheVariants.{Same, Zero as ZeroMark, Cells}
 use Rattle.ts_automaton.specs.declared.expr.Operator.TheVariants.{Fold, Sub}
 use Rattle.ts_automaton.specs.Registers.{EachOf, Values, value_in}
-use Rattle.ts_glue.specs.Glue.{Glue, With, apart, fold_of, folded_between, folded_both, fold_op, glue_of, held_in, is_join, is_wide, join_of, open_in, result_op, worth}
+use Rattle.ts_glue.specs.Glue.{Glue, With, apart, fold_of, folded_between, folded_both, fold_op, glue_of, held_in, is_wide, join_of, open_in, result_op, worth}
 use Rattle.ts_glue.specs.declared.operand.Part.{Part}
 use Rattle.ts_glue.specs.declared.operand.Part.TheVariants.{Whole, Away}
 use Rattle.ts_glue.specs.Pairs.{Pair}
+use Rattle.ts_glue.specs.Shapes.{AreShapeRows}
 use Rattle.ts_sweep.specs.declared.packed.Ends.{Ends}
 use Rattle.ts_sweep.specs.Fronts.{ArePlain}
 use Rattle.ts_meet.specs.declared.gluing.Gluing.{Gluing}
@@ -122,27 +122,13 @@ pub record IsPlain (g : Gluing) (left right : EachOf Ends) : Type 0 where
       IsFoldPlain Whole g.fold g left right
   pub spread : g.wide ≡ true → g.joins ≡ true → IsSpreadPlain g left right
 
--- an occurrence leaves a cell out at its end
-abbrev pub leaves_out : ℕ → Bool
-leaves_out zero = false
-leaves_out (suc a) = true
-
--- the row has, for the forward state q, whether one occurrence goes on to each reverse state
-abbrev pub AreJoinsOf : Pair → ℕ → List Bool → Type 0
-AreJoinsOf p q row = (r : ℕ) → r < length p.reverse.states → get_or row r false ≡ is_join p.table q r
-
 -- what is kept of a pair
 pub record AreJoints (p : Pair) (j : Joints) : Type 0 where
   pub result : j.result ≡ result_op p
   pub fold : j.fold ≡ fold_op p.table.op
   pub unit : j.unit ≡ p.table.unit
   pub wide : j.wide ≡ is_wide p
-  pub trims : j.trims ≡ leaves_out p.table.a
   pub mark : j.mark ≡ p.forward.mark
   pub left_states : j.left_states ≡ length p.forward.states
   pub right_states : j.right_states ≡ length p.reverse.states
-  pub joins : (q : ℕ) → q < length p.forward.states → AreJoinsOf p q (get_or j.joins q [])
-  pub held_left : (q : ℕ) → q < length p.forward.states →
-      get_or j.held_left q false ≡ (node_at p.forward.states q).held
-  pub held_right : (r : ℕ) → r < length p.reverse.states →
-      get_or j.held_right r false ≡ (node_at p.reverse.states r).held
+  pub shapes : AreShapeRows p j.shapes

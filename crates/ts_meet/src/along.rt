@@ -413,7 +413,7 @@ fn along_folded<const O: u8, const F: u8, const WIDE: bool, const N: usize>(
     if !gluing.is_plain_within(first, second) {
         return along_glued(Any, joints, gluing, left, right, values, from, cells);
     }
-    if joints.trims {
+    if gluing.trims {
         let seam = Joined::<O, F, WIDE, true>;
         along_glued(seam, joints, gluing, left, right, values, from, cells)
     } else {

@@ -1,18 +1,20 @@
-//! How the runs of a machine are glued, worked out once for a machine.
+//! How the runs of a machine are glued, by the shapes that it has found.
 
-ghost use Rattle.std.specs.Prelude.{◌≡◌, ℕ, ◌<◌, ℤ, true, false, [], IfSome, IsSome, get_or, length};
-ghost use Rattle.ts_automaton.specs.Body.{node_at};
+ghost use Rattle.std.specs.Prelude.{◌≡◌, ℕ, ◌<◌, ℤ, true, false, IfSome, IsSome};
 ghost use Rattle.ts_base.specs.Limits.{IsCellValue};
-ghost use Rattle.ts_glue.specs.Glue.{glue_of, is_join};
+ghost use Rattle.ts_glue.specs.declared.shape.Shape.TheVariants.{Through as GoesOn};
+ghost use Rattle.ts_glue.specs.declared.table.FoldOp.{FoldOp};
+ghost use Rattle.ts_glue.specs.Glue.{fold_op, glue_of, is_join, is_pair};
 ghost use Rattle.ts_glue.specs.Machines.{pair_of};
-ghost use Rattle.ts_glue.specs.Pairs.{Pair, pair, table_view};
-ghost use Rattle.ts_meet.specs.Joints.{AreJoints, AreJoinsOf, IsGluing, expression, is_add};
+ghost use Rattle.ts_glue.specs.Pairs.{Pair};
+ghost use Rattle.ts_glue.specs.Shapes.{AreShapes, glue_by, shape_of};
+ghost use Rattle.ts_meet.specs.Joints.{AreJoints, IsGluing, expression, is_add, with_worth};
 
 use crate::gluing::{Gluing, is_add};
-use crate::joints::{Joints, STATES};
+use crate::joints::Joints;
 use crate::spot::Spot;
 use ts_automaton::{Automaton, Op};
-use ts_glue::{GlueTable, Machine, first_op};
+use ts_glue::{Machine, Seam, Shape, Shapes};
 
 impl Joints {
     /// The joints of a machine that can be split.
@@ -20,9 +22,9 @@ impl Joints {
         requires split { IsSome (pair_of m.now) }
         ensures { IfSome (pair_of m.now) (λ p. AreJoints p result) }
     {
-        match (m.reverse(), m.table()) {
-            (Some(reverse), Some(table)) => joints_of(m.forward(), reverse, table),
-            _ => unreachable!(),
+        match m.reverse() {
+            Some(reverse) => joints_of(m.forward(), reverse, m.shapes()),
+            None => unreachable!(),
         }
     }
 
@@ -38,15 +40,12 @@ impl Joints {
         ensures worth { IsCellValue result.worth }
         ensures wide { result.wide ≡ self.now.wide }
     {
-        Gluing {
-            result: operator,
-            fold: self.fold,
-            worth: self.unit.worth(spot.value),
-            wide: self.wide,
-            joins: self.are_joined(left, right),
-            trims: self.trims,
-            held_left: self.held_left[left as usize],
-            held_right: self.held_right[right as usize],
+        match self.shape(left, right) {
+            Shape::Apart => self.apart(operator),
+            Shape::Through(seam) => {
+                let worth = self.unit.worth(spot.value);
+                by_seam(operator, self.fold, self.wide, seam).with_worth(worth)
+            }
         }
     }
 
@@ -66,7 +65,7 @@ impl Joints {
             worth: 0,
             wide: self.wide,
             joins: false,
-            trims: self.trims,
+            trims: false,
             held_left: false,
             held_right: false,
         }
@@ -85,17 +84,10 @@ impl Joints {
         ensures wide { result.wide ≡ self.now.wide }
         ensures operators { (result.result ≡ operator) × (result.fold ≡ fold) }
         ensures joins { result.joins ≡ true }
-        ensures trims { result.trims ≡ self.now.trims }
     {
-        Gluing {
-            result: operator,
-            fold,
-            worth: 0,
-            wide: self.wide,
-            joins: true,
-            trims: self.trims,
-            held_left: self.held_left[left as usize],
-            held_right: self.held_right[right as usize],
+        match self.shape(left, right) {
+            Shape::Through(seam) => by_seam(operator, fold, self.wide, seam),
+            Shape::Apart => by_seam(operator, fold, self.wide, Seam::Both),
         }
     }
 
@@ -108,7 +100,7 @@ impl Joints {
             return true;
         }
         for r in 0..self.right_states {
-            if self.joins[q as usize][r as usize] {
+            if self.shapes[q as usize][r as usize].goes_on() {
                 return is_add(self.fold);
             }
         }
@@ -124,7 +116,7 @@ impl Joints {
             return true;
         }
         for q in 0..self.left_states {
-            if self.joins[q as usize][r as usize] {
+            if self.shapes[q as usize][r as usize].goes_on() {
                 return is_add(self.fold);
             }
         }
@@ -138,60 +130,60 @@ impl Joints {
         requires right { right < self.now.right_states }
         ensures { (p : Pair) → AreJoints p self.now → result ≡ is_join p.table left right }
     {
-        self.joins[left as usize][right as usize]
+        self.shape(left, right).goes_on()
+    }
+
+    /// The shape of a pair of states.
+    #[inline(always)]
+    fn shape(&self, left: u8, right: u8) -> Shape
+        requires left { left < self.now.left_states }
+        requires right { right < self.now.right_states }
+        ensures { (p : Pair) → AreJoints p self.now → result ≡ shape_of p left right }
+    {
+        self.shapes[left as usize][right as usize]
     }
 }
 
-/// The joints of two automata with a glue table.
-fn joints_of(forward: &Automaton, reverse: &Automaton, table: &GlueTable) -> Joints
-    ensures { AreJoints (pair forward.now reverse.now (table_view table.now)) result }
+/// The joints of two automata whose runs are glued so.
+fn joints_of(forward: &Automaton, reverse: &Automaton, shapes: &Shapes) -> Joints
+    ensures { (p : Pair) → p.forward ≡ forward.now → p.reverse ≡ reverse.now → AreShapes p shapes.now →
+        AreJoints p result }
 {
     Joints {
-        result: first_op(forward.finish_expr()),
-        fold: table.op.op(),
-        unit: table.unit,
-        wide: table.op.is_pair(),
-        trims: table.a > 0,
+        result: shapes.result,
+        fold: shapes.fold.op(),
+        unit: shapes.unit,
+        wide: shapes.fold.is_pair(),
         mark: forward.mark(),
         left_states: forward.states(),
         right_states: reverse.states(),
-        joins: joins_of(forward, reverse, table),
-        held_left: held_in(forward),
-        held_right: held_in(reverse),
+        shapes: shapes.rows,
     }
 }
 
-/// For each state on both sides, whether one occurrence goes on between them.
-fn joins_of(forward: &Automaton, reverse: &Automaton, table: &GlueTable) -> [[bool; STATES]; STATES]
-    ensures { (q : ℕ) → q < length forward.now.states →
-        AreJoinsOf (pair forward.now reverse.now (table_view table.now)) q (get_or result q []) }
+/// How registers are glued where one occurrence goes on through this seam, but for what the cell is worth.
+#[inline(always)]
+fn by_seam(operator: Op, fold: Op, wide: bool, seam: Seam) -> Gluing
+    ensures value { (f : FoldOp) (d : ℤ) → fold ≡ fold_op f → wide ≡ is_pair f →
+        expression (with_worth result d) ≡ glue_by operator f d (GoesOn seam) }
+    ensures parts { (result.result ≡ operator) × (result.fold ≡ fold) × (result.wide ≡ wide) }
+    ensures joins { result.joins ≡ true }
 {
-    let mut rows = [[false; STATES]; STATES];
-    for q in 0..forward.states() {
-        rows[q as usize] = row_of(forward, reverse, table, q);
+    let (trims, held_left, held_right) = match seam {
+        Seam::Both => (false, false, false),
+        Seam::Between {
+            held_left,
+            held_right,
+        } => (true, held_left, held_right),
+    };
+    Gluing {
+        result: operator,
+        fold,
+        worth: 0,
+        wide,
+        joins: true,
+        trims,
+        held_left,
+        held_right,
     }
-    rows
-}
-
-/// For each state of the reverse automaton, whether one occurrence goes on between `q` and it.
-fn row_of(forward: &Automaton, reverse: &Automaton, table: &GlueTable, q: u8) -> [bool; STATES]
-    ensures length { length result ≡ 8 }
-    ensures joins { AreJoinsOf (pair forward.now reverse.now (table_view table.now)) q result }
-{
-    let mut row = [false; STATES];
-    for r in 0..reverse.states() {
-        row[r as usize] = table.is_join(q, r);
-    }
-    row
-}
-
-/// For each state, whether C is held there.
-fn held_in(a: &Automaton) -> [bool; STATES]
-    ensures { (q : ℕ) → q < length a.now.states → get_or result q false ≡ (node_at a.now.states q).held }
-{
-    let mut held = [false; STATES];
-    for q in 0..a.states() {
-        held[q as usize] = a.state(q).held;
-    }
-    held
 }

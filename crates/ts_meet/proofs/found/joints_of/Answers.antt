@@ -1,19 +1,16 @@
-use Rattle.std.proofs.Common.{refl, ◌∙◌, ap}
-use Rattle.ts_meet.proofs.Gluings.{trims_is}
-use Rattle.ts_glue.specs.Glue.{first_op}
+use Rattle.std.proofs.Common.{sym, ◌∙◌, ap, length}
+use Rattle.ts_automaton.specs.Body.{Body}
+use Rattle.ts_glue.specs.Glue.{fold_op, is_pair}
 use Rattle.ts_meet.proofs.found.joints_of.Goals as goal
 
 pub returns : goal.returns
-returns c = record {
-  result = c.first_op.ensures ∙ ap first_op c.finish_expr.ensures.value;
-  fold = c.op.ensures;
-  unit = refl;
-  wide = c.is_pair.ensures;
-  trims = trims_is c.args.table.now.a;
-  mark = c.mark.ensures;
-  left_states = c.states.ensures.count;
-  right_states = c.states-2.ensures.count;
-  joins = c.joins_of.ensures;
-  held_left = c.held_in.ensures;
-  held_right = c.held_in-2.ensures;
+returns c p front back are = record {
+  result = are.0;
+  fold = c.op.ensures ∙ ap fold_op are.1;
+  unit = are.2;
+  wide = c.is_pair.ensures ∙ ap is_pair are.1;
+  mark = c.mark.ensures ∙ sym (ap (λ (b : Body). b.mark) front);
+  left_states = c.states.ensures.count ∙ sym (ap (λ (b : Body). length b.states) front);
+  right_states = c.states-2.ensures.count ∙ sym (ap (λ (b : Body). length b.states) back);
+  shapes = are.3;
 }
