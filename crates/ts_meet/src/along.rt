@@ -109,17 +109,9 @@ fn along_by<const O: u8, const N: usize>(
     let seconds = watched_in::<O, N>(joints, joints.right_states, right, from, values.len());
     let mut hull = nothing();
     for q in 0..joints.left_states {
+        let column = left.column(q);
         match with_columns::<O, N>(
-            hull,
-            enough,
-            joints,
-            q,
-            left.column(q),
-            right,
-            &seconds,
-            values,
-            from,
-            cells,
+            hull, enough, joints, q, column, right, &seconds, values, from, cells,
         ) {
             Some(more) => hull = more,
             None => return None,
@@ -143,7 +135,6 @@ fn with_columns<const O: u8, const N: usize>(
     cells: u32,
 ) -> Option<Ends>
     requires registers { 6 ≤ lane_count N }
-    requires lanes { N ≤ 64 }
     requires alone { (sides N ≡ BothEnds) ⊎ (joints.now.wide ≡ false) }
     requires operator { numbered O ≡ joints.now.result }
     requires state { q < joints.now.left_states }
@@ -162,17 +153,9 @@ fn with_columns<const O: u8, const N: usize>(
     let mut all = hull;
     for r in 0..joints.right_states {
         let second = seconds[r as usize];
+        let column = right.column(r);
         let pair = along_pair::<O, N>(
-            joints,
-            q,
-            r,
-            first,
-            second,
-            left,
-            right.column(r),
-            values,
-            from,
-            cells,
+            joints, q, r, first, second, left, column, values, from, cells,
         );
         all = hull_of_both(all, pair);
         if is_enough(all, enough) {
@@ -197,7 +180,6 @@ fn along_pair<const O: u8, const N: usize>(
     cells: u32,
 ) -> Ends
     requires registers { 6 ≤ lane_count N }
-    requires lanes { N ≤ 64 }
     requires alone { (sides N ≡ BothEnds) ⊎ (joints.now.wide ≡ false) }
     requires operator { numbered O ≡ joints.now.result }
     requires state { q < joints.now.left_states }

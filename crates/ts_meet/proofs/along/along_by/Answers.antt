@@ -19,19 +19,19 @@ loop-q-init g c p h =
 pub with_columns-requires : goal.with_columns-requires
 with_columns-requires g c =
     let below : c.loop-q.q < c.args.joints.now.left_states = omega (arith, c.loop-q-test.true, c.loop-q.auto.q-end) in
-    let places = subst (ArePlaces g.row.N (c.args.from + length c.args.values.now)) (sym c.column.ensures) (c.requires.left.places c.loop-q.q below) in
+    let places = subst (ArePlaces g.row.N (c.args.from + length c.args.values.now)) (sym c.column-column.ensures) (c.requires.left.places c.loop-q.q below) in
     let given = c.requires in
     let seconds : (r : ℕ) → r < c.args.joints.now.right_states → AreWatched g.row.N (numbered g.row.O)
     (get_or c.watched_in-seconds.result r unwatched) (get_or c.args.right.now r []) c.args.from (length c.args.values.now) =
     λ r l. c.watched_in-seconds.ensures r l in
-    (search rules, (search rules, (given.registers, (given.lanes, (given.alone, (given.operator, (below, (places, (given.right, (seconds, given.values))))))))))
+    (search rules, (search rules, (given.registers, (given.alone, (given.operator, (below, (places, (given.right, (seconds, given.values)))))))))
 
 pub loop-q-preserved : goal.loop-q-preserved
 loop-q-preserved g c p h =
     let a = c.args in let values = c.args.values.now in let q = c.loop-q.q in
     let before = between_along g.row.N p a.left.now a.right.now a.from values a.cells q in
     subst (StandFor c.in-Some.more)
-    (ap (λ z. hull_over (with_along g.row.N p q z a.right.now a.from values a.cells (length p.reverse.states) before) (length values)) c.column.ensures
+    (ap (λ z. hull_over (with_along g.row.N p q z a.right.now a.from values a.cells (length p.reverse.states) before) (length values)) c.column-column.ensures
     ∙ sym (between_along_more g.row.N p a.from values a.cells a.left.now a.right.now (length values) q))
     (c.in-Some.ensures p before h (c.loop-q.invariant p h))
 
@@ -44,7 +44,7 @@ returns-in-None g c p h =
     until_within a.enough part _
     (between_along_rises g.row.N p a.from values a.cells a.left.now a.right.now (length values) (q + 1) (length p.forward.states) few)
     (subst (λ s. IsHullUntil a.enough s None)
-    (ap (λ z. hull_over (with_along g.row.N p q z a.right.now a.from values a.cells states before) (length values)) c.column.ensures
+    (ap (λ z. hull_over (with_along g.row.N p q z a.right.now a.from values a.cells states before) (length values)) c.column-column.ensures
     ∙ sym (between_along_more g.row.N p a.from values a.cells a.left.now a.right.now (length values) q))
     (c.in-None.ensures p before h (c.loop-q.invariant p h)))
 

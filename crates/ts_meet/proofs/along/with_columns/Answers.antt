@@ -18,20 +18,20 @@ loop-r-init g c p so_far h stands =
 pub along_pair-pair-requires : goal.along_pair-pair-requires
 along_pair-pair-requires g c =
     let below : c.loop-r.r < c.args.joints.now.right_states = omega (arith, c.loop-r-test.true, c.loop-r.auto.r-end) in
-    let places = subst (ArePlaces g.row.N (c.args.from + length c.args.values.now)) (sym c.column.ensures) (c.requires.right.places c.loop-r.r below) in
+    let places = subst (ArePlaces g.row.N (c.args.from + length c.args.values.now)) (sym c.column-column.ensures) (c.requires.right.places c.loop-r.r below) in
     let has = c.requires in
     let n = g.row.N in let o = numbered g.row.O in let from = c.args.from in let count = length c.args.values.now in
-    let second = subst (λ z. AreWatched n o (get_or c.args.seconds.now c.loop-r.r unwatched) z from count) (sym c.column.ensures)
+    let second = subst (λ z. AreWatched n o (get_or c.args.seconds.now c.loop-r.r unwatched) z from count) (sym c.column-column.ensures)
     (has.seconds c.loop-r.r below) in
     let first : AreWatched n o c.over-first.result c.args.left.now from count = c.over-first.ensures in
-    (search rules, (has.registers, (has.lanes, (has.alone, (has.operator, (has.state, (below, (has.left, (places, (first, (second, has.values)))))))))))
+    (search rules, (has.registers, (has.alone, (has.operator, (has.state, (below, (has.left, (places, (first, (second, has.values))))))))))
 
 pub loop-r-preserved : goal.loop-r-preserved
 loop-r-preserved g c p so_far h stands =
     let a = c.args in let values = c.args.values.now in let r = c.loop-r.r in
     let before = hull_over (with_along g.row.N p a.q a.left.now a.right.now a.from values a.cells r so_far) (length values) in
     subst (StandFor c.hull_of_both-all.result)
-    (ap (λ z. span_hull before (pair_along g.row.N p a.q r a.left.now z a.from values a.cells (length values))) c.column.ensures
+    (ap (λ z. span_hull before (pair_along g.row.N p a.q r a.left.now z a.from values a.cells (length values))) c.column-column.ensures
     ∙ sym (with_along_more g.row.N p a.from values a.cells a.q a.left.now a.right.now so_far (length values) r))
     (c.hull_of_both-all.ensures before _ (c.loop-r.invariant p so_far h stands) (c.along_pair-pair.ensures p h))
 
@@ -43,7 +43,7 @@ returns-then-is_enough g c p so_far h stands =
     let few : r + 1 ≤ length p.reverse.states = (let k = h.right_states in omega (arith, k, c.loop-r-test.true, c.loop-r.auto.r-end)) in
     let here : StandFor c.hull_of_both-all.result part =
     subst (StandFor c.hull_of_both-all.result)
-    (ap (λ z. span_hull before (pair_along g.row.N p a.q r a.left.now z a.from values a.cells (length values))) c.column.ensures
+    (ap (λ z. span_hull before (pair_along g.row.N p a.q r a.left.now z a.from values a.cells (length values))) c.column-column.ensures
     ∙ sym (with_along_more g.row.N p a.from values a.cells a.q a.left.now a.right.now so_far (length values) r))
     (c.hull_of_both-all.ensures before _ (c.loop-r.invariant p so_far h stands) (c.along_pair-pair.ensures p h)) in
     until_within a.enough part _
