@@ -13,7 +13,7 @@ use Rattle.ts_row.specs.declared.plan.CellFold.TheVariants.{Ones, Width, Surf, G
 use Rattle.ts_row.specs.declared.plan.RangeFold.{RangeFold}
 use Rattle.ts_row.specs.declared.plan.RangeFold.TheVariants.{Sum, Highest, Lowest}
 use Rattle.ts_row.specs.declared.plan.Shape.{Shape}
-use Rattle.ts_row.specs.declared.plan.Shape.TheVariants.{Kept, Longer, Begun, Found, Inside, Ended, Anew, FoundTwice, EndedTwice, LongerNext, FoundNext, InsideNext, Other, Pairs}
+use Rattle.ts_row.specs.declared.plan.Shape.TheVariants.{Kept, Longer, Begun, Found, Inside, Ended, Anew, FoundTwice, EndedTwice, LongerNext, FoundNext, InsideNext, Other}
 use Rattle.ts_row.specs.Plans.{IsShapeOf, cell_start, cell_word, least, less_of, made_by, once, range_start, result_by, twice}
 use Rattle.ts_row.proofs.NextShapes.{found_split, inside_split}
 use Rattle.ts_sweep.specs.Moves.{of_width, rest_split}
@@ -82,7 +82,6 @@ shape_made wide (LongerNext f) = refl
 shape_made wide (FoundNext f) = same_cut (found_split f) refl (start_split f) refl refl
 shape_made wide (InsideNext f) = same_cut (inside_split f) refl (start_split f) refl refl
 shape_made wide Other = tt
-shape_made wide Pairs = tt
 
 -- E and F are read in a wide automaton alone
 rest_same : (wide : Bool) (e f : Formula) → (wide ≡ true → e ≡ f) → rest_split wide (split_formula e) ≡ rest_split wide (split_formula f)

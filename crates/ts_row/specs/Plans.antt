@@ -1,5 +1,5 @@
 -- How the moves of an automaton are taken in, found once for an automaton.
-use Rattle.std.specs.Prelude.{◌≡◌, ℕ, ◌<◌, Bool, true, false, if◌then◌else◌, IfSome, None, length, get_or}
+use Rattle.std.specs.Prelude.{◌≡◌, ℕ, ◌<◌, Bool, true, false, if◌then◌else◌, IfSome, MatchOption, None, length, get_or}
 use Rattle.ts_base.specs.declared.letter.Letter.{Letter}
 use Rattle.ts_base.specs.declared.letter.Letter.TheVariants.{Less, Equal, Greater}
 use Rattle.ts_base.specs.declared.op.Op.{Op}
@@ -13,7 +13,8 @@ use Rattle.ts_automaton.specs.Registers.{each}
 use Rattle.ts_automaton.specs.Body.{Body, Move}
 use Rattle.ts_hull.specs.Sealed.{move_at}
 use Rattle.ts_hull.specs.Splits.{Split, FrontOf, TailOf}
-use Rattle.ts_hull.specs.Cuts.{Cut, cut_of}
+use Rattle.ts_hull.specs.Cuts.{Cut, all_swept, cut_of}
+use Rattle.ts_sweep.specs.AnyParts.{AreReadingsOf}
 use Rattle.ts_sweep.specs.Here.{here_formula, here_move}
 use Rattle.ts_sweep.specs.Moves.{of_width}
 use Rattle.ts_sweep.specs.PairMoves.{emission}
@@ -25,7 +26,7 @@ use Rattle.ts_row.specs.declared.plan.CellFold.TheVariants.{Ones, Width, Surf, G
 use Rattle.ts_row.specs.declared.plan.RangeFold.{RangeFold}
 use Rattle.ts_row.specs.declared.plan.RangeFold.TheVariants.{Sum, Highest, Lowest}
 use Rattle.ts_row.specs.declared.plan.Shape.{Shape}
-use Rattle.ts_row.specs.declared.plan.Shape.TheVariants.{Kept, Longer, Begun, Found, Inside, Ended, Anew, FoundTwice, EndedTwice, LongerNext, FoundNext, InsideNext, Other, Pairs}
+use Rattle.ts_row.specs.declared.plan.Shape.TheVariants.{Kept, Longer, Begun, Found, Inside, Ended, Anew, FoundTwice, EndedTwice, LongerNext, FoundNext, InsideNext, Other}
 use Rattle.ts_row.specs.declared.plan.Equals.TheVariants.{Alone, WithLess, WithGreater}
 use Rattle.ts_row.specs.declared.plan.MovePlan.{MovePlan}
 use Rattle.ts_row.specs.declared.plan.StatePlan.{StatePlan}
@@ -178,7 +179,6 @@ made_by (InsideNext f) = (
   Leaf HighAtom,
 )
 made_by Other = (Leaf C, Leaf E, Leaf D, Leaf F)
-made_by Pairs = (Leaf C, Leaf E, Leaf D, Leaf F)
 
 -- and of R: it may be joined with what was found or is held
 abbrev pub result_by : Bool → Shape → Formula
@@ -195,7 +195,6 @@ IsShapeOf wide (FoundNext f) k =
     k ≡ of_width wide (found_tails (Fold (cell_op f)) (cell_op f) (cell_word f) (cell_start f))
 IsShapeOf wide (InsideNext f) k = k ≡ of_width wide (inside_tails (Fold (cell_op f)) (cell_op f) (cell_start f))
 IsShapeOf wide Other k = Unit {0}
-IsShapeOf wide Pairs k = Unit {0}
 IsShapeOf wide s k =
     k ≡ of_width wide (fronts (made_by s).0 (made_by s).1 (made_by s).2 (made_by s).3 (result_by wide s))
 
@@ -204,9 +203,11 @@ IsShapeOf wide s k =
 abbrev pub AreOperatorsOf : Bool → Move → Operators → Type 0
 AreOperatorsOf wide m p = (m.to ≡ emission wide p.ranges p.cells) × (wide ≡ true → p.cells ≡ Max)
 
--- what is planned of a move: its shape, where on `=` the next cell is read as the cell, and its operators
+-- what is planned of a move: its shape, where on `=` the next cell is read as the cell; how its expressions read the
+-- next cell, or that it can't be swept; and its operators
 pub record IsMovePlan (wide : Bool) (p : MovePlan) (equal : Bool) (m : Move) : Type 0 where
   pub shape : IsShapeOf wide p.shape (cut_of (here_move equal m))
+  pub readings : MatchOption p.readings (all_swept (cut_of m) ≡ false) (AreReadingsOf m)
   pub operators : IfSome p.operators (AreOperatorsOf wide m)
 
 abbrev pub is_equal : Letter → Bool
@@ -226,7 +227,7 @@ pub record IsStatePlan (b : Body) (q : ℕ) (p : StatePlan) : Type 0 where
   pub with_greater : p.equals ≡ WithGreater → move_at b q Equal ≡ move_at b q Greater
 
 abbrev pub unplanned_move : MovePlan
-unplanned_move = record { shape = Other; operators = None }
+unplanned_move = record { shape = Other; readings = None; operators = None }
 
 abbrev pub unplanned : StatePlan
 unplanned = record { less = unplanned_move; equal = unplanned_move; greater = unplanned_move; equals = Alone }

@@ -36,7 +36,7 @@ use crate::emission::{Operators, emission_of};
 use crate::words::{Words, is_same_turn, is_words, words_of};
 use ts_automaton::{Atom, Automaton, Expr, Op, State, Turn};
 use ts_base::Letter;
-use ts_sweep::swept::swept_parts;
+use ts_sweep::swept::Readings;
 
 /// What the cells of a range are folded to: 1, their number, their sum, their greatest or their least value.
 #[derive(Clone, Copy)]
@@ -60,8 +60,7 @@ pub(crate) enum RangeFold {
 /// in `Found` C is made of D and the cell, in `Inside` of C, D and the cell, and D is reset; in `Ended` R takes in D
 /// and the cell, and D is reset; in `Anew` R takes in C, and C and D are reset; `FoundTwice` and `EndedTwice` are
 /// `Found` and `Ended` with the worth of two cells; `LongerNext` and `InsideNext` are `Longer` and `Inside` with the
-/// next cell in place of the cell, and `FoundNext` is `Found` with both. `Other` is anything else that
-/// can be swept, and `Pairs` what can't: its expressions read the next cell otherwise.
+/// next cell in place of the cell, and `FoundNext` is `Found` with both. `Other` is anything else.
 #[derive(Clone, Copy)]
 pub(crate) enum Shape {
     Kept,
@@ -77,7 +76,6 @@ pub(crate) enum Shape {
     FoundNext(CellFold),
     InsideNext(CellFold),
     Other,
-    Pairs,
 }
 
 /// Where the move on `=` is taken in: alone, or with the one on `<` or on `>`, which is the same.
@@ -88,10 +86,12 @@ pub(crate) enum Equals {
     WithGreater,
 }
 
-/// How a move is taken in: its shape, and its operators if it is an emission. Those serve where no sweep does.
+/// How a move is taken in: its shape; where that is any other, how its expressions read the next cell, if it can be
+/// swept; and where no sweep serves, its operators, if it is an emission.
 #[derive(Clone, Copy)]
 pub(crate) struct MovePlan {
     pub(crate) shape: Shape,
+    pub(crate) readings: Option<Readings>,
     pub(crate) operators: Option<Operators>,
 }
 
@@ -240,7 +240,7 @@ fn open_words(s: Shape) -> (Words, Words)
         | Shape::EndedTwice(_, f)
         | Shape::FoundNext(f)
         | Shape::InsideNext(f) => (Words::Word(start_of(f)), Words::Word(Atom::PosInf)),
-        Shape::Kept | Shape::Other | Shape::Pairs => (Words::Word(Atom::D), Words::Word(Atom::F)),
+        Shape::Kept | Shape::Other => (Words::Word(Atom::D), Words::Word(Atom::F)),
     }
 }
 
@@ -369,8 +369,7 @@ impl Shape {
     {
         match only_shape(t, equal) {
             Some(s) if is_shape(t, s, wide, equal) => s,
-            _ if equal || swept_parts(t).is_some() => Shape::Other,
-            _ => Shape::Pairs,
+            _ => Shape::Other,
         }
     }
 }
@@ -383,6 +382,7 @@ impl MovePlan {
     {
         MovePlan {
             shape: Shape::of(t, wide, equal),
+            readings: Readings::of(t),
             operators: emission_of(t, wide),
         }
     }
@@ -450,6 +450,7 @@ impl Plan {
     {
         let unplanned = MovePlan {
             shape: Shape::Other,
+            readings: None,
             operators: None,
         };
         let rest = StatePlan {

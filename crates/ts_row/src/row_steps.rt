@@ -17,7 +17,7 @@ use crate::between::{Between, On};
 use crate::cell::Cell;
 use crate::packed_row::PackedRow;
 use crate::pair_shapes::take_by_pairs;
-use crate::plan::{Equals, MovePlan, Plan, Shape, StatePlan, turn};
+use crate::plan::{Equals, MovePlan, Plan, StatePlan, turn};
 use crate::row_view::RowView;
 use crate::shapes::take_shape;
 use std::alloc::Global;
@@ -66,18 +66,18 @@ fn planned_move<'a, const N: usize>(
     }
 }
 
-/// Takes a move into a column by a sweep that evaluates its expressions, if it can be swept. On `=` it can be, whatever
-/// it reads, since the next cell is the cell. Where the plan has found that it can't be, its expressions aren't read.
+/// Takes a move into a column by a sweep that evaluates its expressions, if the plan has found how they read the next
+/// cell. On `=` it can be swept whatever they read, since the next cell is the cell.
 fn take_tree<const N: usize>(m: Planned<'_>, t: &Between<'_, N>, next: &mut [PackedHull<N>]) -> bool
     requires covered { IsCovered N t.now }
     requires width { rests is_zero (has_wide N) (move_of m.turn.now).to ≡ true }
+    requires plan { IsMovePlan (has_wide N) m.plan.now (is_equal m.on.letter) (move_of m.turn.now) }
     requires next_packed { IsColumn N (count_in t.now.next_values.now) next.old }
     ensures packed { IsColumn N (count_in t.now.next_values.now) next.new }
     ensures moved { result ≡ true → HasMoved N t.now m.entry.on (move_of m.entry.turn.now) next.old next.new }
     ensures kept { result ≡ false → next.new ≡ next.old }
 {
-    match (m.on.letter, m.plan.shape) {
-        (_, Shape::Pairs) => false,
+    match (m.on.letter, m.plan.readings) {
         (Letter::Equal, _) => take_equal::<PackedHull<N>, &Cell<'_>, &Cell<'_>>(
             m.turn,
             t.cover,
@@ -86,8 +86,9 @@ fn take_tree<const N: usize>(m: Planned<'_>, t: &Between<'_, N>, next: &mut [Pac
             t.next_values,
             next,
         ),
-        _ => take_swept::<PackedHull<N>, &Cell<'_>, &Cell<'_>>(
+        (_, Some(readings)) => take_swept::<PackedHull<N>, &Cell<'_>, &Cell<'_>>(
             m.turn,
+            readings,
             m.on.letter,
             m.on.twin,
             t.cover,
@@ -96,6 +97,7 @@ fn take_tree<const N: usize>(m: Planned<'_>, t: &Between<'_, N>, next: &mut [Pac
             t.next_values,
             next,
         ),
+        (_, None) => false,
     }
 }
 

@@ -728,6 +728,6 @@ pub(crate) fn take_shape<const N: usize>(
         Shape::LongerNext(f) => longer_next(f, on, t, next),
         Shape::FoundNext(f) => found_next(f, on, t, next),
         Shape::InsideNext(f) => inside_next(f, on, t, next),
-        Shape::Other | Shape::Pairs => false,
+        Shape::Other => false,
     }
 }

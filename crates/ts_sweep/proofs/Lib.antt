@@ -22,6 +22,7 @@ pub mod PlainSums
 pub mod Rows
 pub mod Columns
 pub mod Widths
+pub mod Unswept
 pub mod Equals
 pub mod SmallLanes
 pub mod Unpacked

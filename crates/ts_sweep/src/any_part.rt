@@ -1,15 +1,15 @@
 //! Expressions that are known only when the program runs, by how they read the next cell.
 
 ghost use Rattle.std.specs.Prelude.{◌≡◌, ◌≤◌};
-ghost use Rattle.ts_automaton.specs.Formula.{Join, formula};
-ghost use Rattle.ts_automaton.specs.declared.expr.Operator.TheVariants.{Fold, Sub};
-ghost use Rattle.ts_hull.specs.Splits.{is_double, is_front, is_next, operands, split_formula, tail_of};
-ghost use Rattle.ts_sweep.specs.AnyParts.{split_by};
+ghost use Rattle.ts_automaton.specs.Formula.{formula};
+ghost use Rattle.ts_sweep.specs.declared.reading.Reading.TheVariants.{Inner, Last};
+ghost use Rattle.ts_sweep.specs.AnyParts.{inner_split, split_as, split_by};
 ghost use Rattle.ts_sweep.specs.Small.{IsSmall};
 
 use crate::cover::Cover;
 use crate::packed::{Ends, Packed, number};
 use crate::part::Part;
+use crate::reading::Reading;
 use crate::tree::{folded_ends, is_narrow, tree_ends};
 use ts_automaton::{Expr, Op};
 
@@ -22,120 +22,51 @@ pub enum AnyPart<'a> {
     Double(Op, &'a Expr, &'a Expr),
 }
 
-/// Whether an expression doesn't read the next cell.
-pub fn is_front(e: &Expr) -> bool
-    ensures { result ≡ is_front (formula e.now) }
-{
-    match e {
-        Expr::Next => false,
-        Expr::Add(a, b) | Expr::Sub(a, b) | Expr::Max(a, b) | Expr::Min(a, b) => {
-            is_front(a) && is_front(b)
-        }
-        _ => true,
-    }
-}
-
-/// Whether an expression is the next cell itself.
-fn is_next(e: &Expr) -> bool
-    ensures { result ≡ is_next (formula e.now) }
-{
-    match e {
-        Expr::Next => true,
-        _ => false,
-    }
-}
-
-/// How many operands an expression has, counted up to 255.
-fn operands(e: &Expr) -> u8
-    ensures { result ≡ operands (formula e.now) }
-{
-    match e {
-        Expr::Add(a, b) | Expr::Sub(a, b) | Expr::Max(a, b) | Expr::Min(a, b) => {
-            operands(a).saturating_add(operands(b))
-        }
-        _ => 1,
-    }
-}
-
-/// Whether `o e (p f r)` may be taken as `o (o e f) r`, with `r` the next cell: of so few operands, each of at most
-/// 10^16 in size, no sum is clamped.
-fn is_double(o: Op, p: Op, e: &Expr, f: &Expr, r: &Expr) -> bool
-    ensures { result ≡ is_double o p (formula e.now) (formula f.now) (formula r.now) }
-{
-    match (o, p) {
-        (Op::Add, Op::Add) | (Op::Max, Op::Max) | (Op::Min, Op::Min) => {
-            is_next(r) && is_front(e) && is_front(f) && operands(e) as u16 + operands(f) as u16 <= 7
-        }
-        _ => false,
-    }
-}
-
-/// The part that `o e (p f r)` is.
-fn double_part<'a>(o: Op, p: Op, e: &'a Expr, f: &'a Expr, r: &Expr) -> Option<AnyPart<'a>>
-    ensures { split_by result ≡ tail_of o (formula e.now) (Join (Fold p) (formula f.now) (formula r.now)) }
-{
-    if is_double(o, p, e, f, r) {
-        Some(AnyPart::Double(o, e, f))
-    } else {
-        None
-    }
-}
-
-/// The part that an operator over two expressions is, if the next cell is read in one of them.
-fn tail_part<'a>(o: Op, a: &'a Expr, b: &'a Expr) -> Option<AnyPart<'a>>
-    ensures { split_by result ≡ tail_of o (formula a.now) (formula b.now) }
+/// The part that an operator over two expressions is, of which the latter reads the next cell last.
+fn inner_part<'a>(o: Op, a: &'a Expr, b: &'a Expr) -> Option<AnyPart<'a>>
+    ensures { split_by result ≡ inner_split o (formula a.now) (formula b.now) }
 {
     match b {
-        Expr::Next => {
-            if is_front(a) {
-                Some(AnyPart::Tail(o, a))
-            } else {
-                None
-            }
+        Expr::Add(f, _) | Expr::Sub(f, _) | Expr::Max(f, _) | Expr::Min(f, _) => {
+            Some(AnyPart::Double(o, a, f))
         }
-        Expr::Add(f, r) => double_part(o, Op::Add, a, f, r),
-        Expr::Max(f, r) => double_part(o, Op::Max, a, f, r),
-        Expr::Min(f, r) => double_part(o, Op::Min, a, f, r),
         _ => None,
     }
 }
 
-/// The part that an operator over two expressions is.
-fn joined_part<'a>(whole: &'a Expr, o: Op, a: &'a Expr, b: &'a Expr) -> Option<AnyPart<'a>>
-    requires { formula whole.now ≡ Join (Fold o) (formula a.now) (formula b.now) }
-    ensures { split_by result ≡ split_formula (Join (Fold o) (formula a.now) (formula b.now)) }
+/// The part that an expression is which reads the next cell as its last operand.
+fn last_part<'a>(e: &'a Expr) -> Option<AnyPart<'a>>
+    ensures { split_by result ≡ split_as Last (formula e.now) }
 {
-    if is_front(a) && is_front(b) {
-        Some(AnyPart::Front(whole))
-    } else {
-        tail_part(o, a, b)
+    match e {
+        Expr::Add(a, _) => Some(AnyPart::Tail(Op::Add, a)),
+        Expr::Max(a, _) => Some(AnyPart::Tail(Op::Max, a)),
+        Expr::Min(a, _) => Some(AnyPart::Tail(Op::Min, a)),
+        _ => None,
     }
 }
 
-/// The part that a difference is: neither of its expressions may read the next cell.
-fn less_part<'a>(whole: &'a Expr, a: &Expr, b: &Expr) -> Option<AnyPart<'a>>
-    requires { formula whole.now ≡ Join Sub (formula a.now) (formula b.now) }
-    ensures { split_by result ≡ split_formula (Join Sub (formula a.now) (formula b.now)) }
+/// The part that an expression is which reads the next cell as the last operand of its last operand.
+fn double_part<'a>(e: &'a Expr) -> Option<AnyPart<'a>>
+    ensures { split_by result ≡ split_as Inner (formula e.now) }
 {
-    if is_front(a) && is_front(b) {
-        Some(AnyPart::Front(whole))
-    } else {
-        None
+    match e {
+        Expr::Add(a, b) => inner_part(Op::Add, a, b),
+        Expr::Max(a, b) => inner_part(Op::Max, a, b),
+        Expr::Min(a, b) => inner_part(Op::Min, a, b),
+        _ => None,
     }
 }
 
 impl<'a> AnyPart<'a> {
-    /// The part that an expression is; none where it reads the next cell in another way.
-    pub fn of(e: &'a Expr) -> Option<AnyPart<'a>>
-        ensures { split_by result ≡ split_formula (formula e.now) }
+    /// The part that an expression is which reads the next cell so; none where it has too few operands.
+    pub(crate) fn of(e: &'a Expr, reading: Reading) -> Option<AnyPart<'a>>
+        ensures { split_by result ≡ split_as reading (formula e.now) }
     {
-        match e {
-            Expr::Next => None,
-            Expr::Add(a, b) => joined_part(e, Op::Add, a, b),
-            Expr::Sub(a, b) => less_part(e, a, b),
-            Expr::Max(a, b) => joined_part(e, Op::Max, a, b),
-            Expr::Min(a, b) => joined_part(e, Op::Min, a, b),
-            _ => Some(AnyPart::Front(e)),
+        match reading {
+            Reading::Never => Some(AnyPart::Front(e)),
+            Reading::Last => last_part(e),
+            Reading::Inner => double_part(e),
         }
     }
 }

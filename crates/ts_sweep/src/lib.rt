@@ -38,6 +38,7 @@ pub mod packed;
 pub mod pair_move;
 pub mod pairs;
 pub mod part;
+pub mod reading;
 pub mod row;
 pub mod runs;
 mod small;

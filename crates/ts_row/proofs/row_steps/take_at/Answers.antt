@@ -1,6 +1,12 @@
-use Rattle.std.proofs.Common.{◌≡◌, ◌+◌, ◌-◌, ◌*◌, ◌++◌, take, drop, ap, arith}
+use Rattle.std.proofs.Common.{◌≡◌, ◌≤◌, ◌+◌, ◌-◌, ◌*◌, ◌++◌, length, take, drop, ap, arith}
+use borrow.Author.Rules.{scaled_fits≤}
 use Rattle.ts_row.specs.Takings.{count_in}
 use Rattle.ts_row.proofs.row_steps.take_at.Goals as goal
+
+pub offset_bounds-hulls-from : goal.offset_bounds-hulls-from
+offset_bounds-hulls-from g c =
+    let inside : c.args.m.turn.now.next * c.args.stride ≤ length c.args.hulls.now = omega (arith, c.requires.inside) in
+    scaled_fits≤ (c.args.m.turn.now.next * c.args.stride) (length c.args.hulls.now) _ inside c.well_formed.1.1.1.0.1
 
 pub returns : goal.returns
 returns g c =
