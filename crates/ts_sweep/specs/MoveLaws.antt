@@ -30,7 +30,7 @@ use Rattle.ts_sweep.specs.Fronts.{AreEndsOf, IsCutFor, IsFor, IsSplitFor}
 use Rattle.ts_sweep.specs.FrontLaws.{pack_at, never_added}
 use Rattle.ts_sweep.specs.Sides.{Sides, BothEnds, UpperEnds, LowerEnds, IsEndsOf, as_read, kept_ends, read_ends, seen, seen_hull}
 use Rattle.ts_sweep.specs.SidesLaws.{both_kept, ends_of_pack, kept_packs, narrow_or_both, read_in, read_kept, read_length, read_pack}
-use Rattle.ts_sweep.specs.Moves.{of_name, rest_split, of_width, kept_cut, IsFrontOf, IsClosingOf, replaced_all, with_all, beside, ends_by, IfPlaced, IsFitFor, IsClosableBy}
+use Rattle.ts_sweep.specs.Moves.{of_name, rest_split, of_width, kept_cut, IsFrontOf, IsClosingOf, replaced_all, with_all, beside, any_tail, begun_by, closed_by, IfPlaced, IsFitFor, IsClosableBy}
 
 -- lanes with other ends at a place
 
@@ -447,21 +447,6 @@ by_names P c e d f r E = e
 by_names P c e d f r D = d
 by_names P c e d f r F = f
 by_names P c e d f r R = r
-
--- the ends of all registers, by what is made of lanes
-abbrev pub begun_by : Bool → (Name → List ℤ → Ends) → List ℤ → Name → Ends
-begun_by wide front xs = ends_by wide (front C xs) (front E xs) (front D xs) (front F xs) (front R xs)
-
--- the ends of all registers, by what is made of the ends of each
-abbrev pub closed_by : ℕ → (Name → Ends → Ends) → List ℤ → Name → Ends
-closed_by n close xs =
-    ends_by (is_wide n) (close C (ends_in xs (place n C))) (close E (ends_in xs (place n E)))
-    (close D (ends_in xs (place n D)))
-    (close F (ends_in xs (place n F))) (close R (ends_in xs (place n R)))
-
--- whether any part has a tail
-abbrev pub any_tail : (Name → Bool) → Bool
-any_tail tail = tail C || (tail E || (tail D || (tail F || tail R)))
 
 pub or_false : (a b c d e : Bool) → (a || (b || (c || (d || e)))) ≡ false → (a ≡ false) × (b ≡ false) × (c ≡ false) ×
     (d ≡ false) × (e ≡ false)

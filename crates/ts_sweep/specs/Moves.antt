@@ -1,5 +1,5 @@
 -- What a move makes of hulls in lanes.
-use Rattle.std.specs.Prelude.{◌≡◌, ◌⊎◌, ℕ, ◌≤◌, ℤ, pos, Bool, if◌then◌else◌, Option, None, Some, List}
+use Rattle.std.specs.Prelude.{◌≡◌, ◌⊎◌, ℕ, ◌≤◌, ℤ, pos, Bool, ◌||◌, if◌then◌else◌, Option, None, Some, List}
 use Rattle.ts_automaton.specs.declared.expr.Atom.TheVariants.{C as AtomC, E as AtomE, D as AtomD, F as AtomF, R as AtomR, Zero as AtomZero}
 use Rattle.ts_automaton.specs.Formula.{Leaf}
 use Rattle.ts_automaton.specs.Registers.{EachOf, each}
@@ -9,7 +9,7 @@ use Rattle.ts_sweep.specs.declared.packed.Ends.{Ends}
 use Rattle.ts_sweep.specs.declared.packed.Name.{Name}
 use Rattle.ts_sweep.specs.declared.packed.Name.TheVariants.{C, E, D, F, R}
 use Rattle.ts_sweep.specs.Lanes.{no_lanes}
-use Rattle.ts_sweep.specs.Packed.{number_ends, place, ends_in, with_ends_in, unpacked, AreSome, IsPacked}
+use Rattle.ts_sweep.specs.Packed.{number_ends, is_wide, place, ends_in, with_ends_in, unpacked, AreSome, IsPacked}
 use Rattle.ts_sweep.specs.Sides.{Sides, as_read, seen_hull}
 
 -- what there is for a register
@@ -67,22 +67,20 @@ ends_by wide c e d f r D = d
 ends_by wide c e d f r F = beside wide f
 ends_by wide c e d f r R = r
 
--- what five functions make of lanes and of ends, by register
-abbrev pub fronts_by : (List ℤ → Ends) → (List ℤ → Ends) → (List ℤ → Ends) → (List ℤ → Ends) → (List ℤ → Ends) →
-    Name → List ℤ → Ends
-fronts_by c e d f r C = c
-fronts_by c e d f r E = e
-fronts_by c e d f r D = d
-fronts_by c e d f r F = f
-fronts_by c e d f r R = r
+-- the ends of all registers, by what is made of lanes
+abbrev pub begun_by : Bool → (Name → List ℤ → Ends) → List ℤ → Name → Ends
+begun_by wide front xs = ends_by wide (front C xs) (front E xs) (front D xs) (front F xs) (front R xs)
 
-abbrev pub closings_by : (Ends → Ends) → (Ends → Ends) → (Ends → Ends) → (Ends → Ends) → (Ends → Ends) → Name → Ends →
-    Ends
-closings_by c e d f r C = c
-closings_by c e d f r E = e
-closings_by c e d f r D = d
-closings_by c e d f r F = f
-closings_by c e d f r R = r
+-- the ends of all registers, by what is made of the ends of each
+abbrev pub closed_by : ℕ → (Name → Ends → Ends) → List ℤ → Name → Ends
+closed_by n close xs =
+    ends_by (is_wide n) (close C (ends_in xs (place n C))) (close E (ends_in xs (place n E)))
+    (close D (ends_in xs (place n D)))
+    (close F (ends_in xs (place n F))) (close R (ends_in xs (place n R)))
+
+-- whether any part has a tail
+abbrev pub any_tail : (Name → Bool) → Bool
+any_tail tail = tail C || (tail E || (tail D || (tail F || tail R)))
 
 -- what five parts ask of lanes, by the register of each
 abbrev pub fits_by : (List ℤ → Type 0) → (List ℤ → Type 0) → (List ℤ → Type 0) → (List ℤ → Type 0) → (List ℤ → Type 0) →

@@ -1,11 +1,10 @@
 //! Moves as sweeps take them in: what becomes of each register, or that all are kept.
 
-ghost use Rattle.std.specs.Prelude.{◌≡◌, ℤ, ◌≤◌, ◌||◌, List, true};
-ghost use Rattle.ts_automaton.specs.Registers.{each};
+ghost use Rattle.std.specs.Prelude.{◌≡◌, ℤ, ◌≤◌, List, true};
 ghost use Rattle.ts_sweep.specs.declared.packed.Name.{Name};
-ghost use Rattle.ts_sweep.specs.Covers.{IsBounded, IsHullBounded};
+ghost use Rattle.ts_sweep.specs.Covers.{IsHullBounded};
 ghost use Rattle.ts_sweep.specs.Fronts.{IsCutFor};
-ghost use Rattle.ts_sweep.specs.Moves.{beside, fits_by};
+ghost use Rattle.ts_sweep.specs.Moves.{beside};
 ghost use Rattle.ts_sweep.specs.Packed.{IsPacked, ends_in, is_wide, place};
 ghost use Rattle.ts_sweep.specs.Sides.{Sides, as_read};
 ghost use Rattle.ts_sweep.specs.Small.{IsSmall};
@@ -38,11 +37,94 @@ pub trait Moves<H: Packed>: Fronts<H> {
         IsClosingOf H.sides (cut k) H.count (H.lanes run) w (H.lanes (Self.closing k run w)) };
 }
 
+/// A part for each register. Narrow hulls have no lanes for E and F, so the parts for these are ignored there.
+pub trait EachPart: Copy {
+    ghost use Rattle.std.specs.Prelude.{◌≡◌, ℕ, ◌≤◌, Bool, true, false, ℤ, List};
+    ghost use Rattle.ts_base.specs.declared.span.Span.{Span};
+    ghost use Rattle.ts_automaton.specs.declared.regs.Hull.{Hull};
+    ghost use Rattle.ts_hull.specs.Cuts.{Cut};
+    ghost use Rattle.ts_hull.specs.Splits.{closed_span, front_span};
+    ghost use Rattle.ts_sweep.specs.declared.packed.Ends.{Ends};
+    ghost use Rattle.ts_sweep.specs.declared.packed.Name.{Name};
+    ghost use Rattle.ts_sweep.specs.Covers.{IsBounded};
+    ghost use Rattle.ts_sweep.specs.Fronts.{AreEndsOf, IsCutFor, IsSplitFor};
+    ghost use Rattle.ts_sweep.specs.Moves.{IfPlaced, any_tail, begun_by, closed_by, of_name, replaced_all};
+    ghost use Rattle.ts_sweep.specs.Packed.{ends_in, is_wide, max_ends, place};
+    ghost use Rattle.ts_sweep.specs.Sides.{IsEndsOf, Sides, as_read, read_ends};
+    ghost use Rattle.ts_sweep.specs.Small.{IsSmall};
+
+    /// The front and the tail of each.
+    ghost splits: { Self → Cut };
+
+    /// Whether it has a tail.
+    ghost tails: { Self → Name → Bool };
+
+    /// That its front may be evaluated on these lanes, and closed.
+    ghost fits: { Self → Name → List ℤ → Type 0 };
+
+    /// The ends of its front in lanes, at a value.
+    ghost fronts: { Self → Name → List ℤ → ℤ → Ends };
+
+    /// That ends may be closed.
+    ghost closables: { Self → Name → Ends → Type 0 };
+
+    /// What the next value makes of ends.
+    ghost closings: { Self → Name → Ends → ℤ → Ends };
+
+    /// Whether any has a tail.
+    fn any_tail(self) -> bool
+        ensures { result ≡ any_tail (tails self) };
+
+    /// Whether those that narrow hulls have may be evaluated on one end alone.
+    fn are_narrow(self) -> bool
+        ensures { result ≡ true → (s : Sides) → IsCutFor s (splits self) };
+
+    /// Whether all may be evaluated and closed on all lanes that a cover bounds.
+    fn are_fit(self, cover: &Cover) -> bool
+        ensures { result ≡ true → (xs : List ℤ) → IsBounded cover.now xs → (m : Name) → fits self m xs };
+
+    /// A hull whose registers have the ends of their fronts at the value `x`.
+    fn all_begun<H: Packed>(self, h: H, x: i64) -> H
+        requires registers { 6 ≤ H.count }
+        requires fit { (m : Name) → IfPlaced (place H.count m) (fits self m (as_read H.sides (H.lanes h))) }
+        requires small { IsSmall x }
+        ensures { result ≡ replaced_all H.replaced h
+            (begun_by (is_wide H.count) (λ m xs. fronts self m xs x) (as_read H.sides (H.lanes h))) };
+
+    /// A hull of fronts whose registers have the ends that the next value `y` makes of them.
+    fn all_closed<H: Packed>(self, run: H, y: i64) -> H
+        requires registers { 6 ≤ H.count }
+        requires closable { (m : Name) → IfPlaced (place H.count m)
+            (closables self m (ends_in (as_read H.sides (H.lanes run)) (place H.count m))) }
+        requires small { IsSmall y }
+        ensures { result ≡ replaced_all H.replaced run
+            (closed_by H.count (λ m e. closings self m e y) (as_read H.sides (H.lanes run))) };
+
+    ghost closables_both: { (k : Self) (m : Name) (a b : Ends) → closables k m a → closables k m b →
+        closables k m (max_ends a b) };
+
+    ghost closables_front: { (k : Self) (x : ℤ) → IsSmall x → (m : Name) (xs : List ℤ) → fits k m xs →
+        closables k m (fronts k m xs x) };
+
+    ghost closables_read: { (k : Self) (s : Sides) (m : Name) (e : Ends) → closables k m e →
+        closables k m (read_ends s e) };
+
+    ghost fronts_pack: { (k : Self) (s : Sides) (x : ℤ) → IsSmall x → (m : Name) (xs : List ℤ) (h : Hull) →
+        AreEndsOf s xs h → IsSplitFor s (of_name (splits k) m) → fits k m xs →
+        IsEndsOf s (fronts k m xs x) (front_span (of_name (splits k) m) h x) };
+
+    ghost no_tails: { (k : Self) (y : ℤ) (m : Name) → tails k m ≡ false → (t : Span) →
+        closed_span (of_name (splits k) m) t y ≡ t };
+
+    ghost closings_pack: { (k : Self) (s : Sides) (y : ℤ) → IsSmall y → (m : Name) (e : Ends) (t : Span) →
+        IsEndsOf s e t → closables k m e → IsEndsOf s (closings k m e y) (closed_span (of_name (splits k) m) t y) };
+}
+
 /// Keeps all registers.
 #[derive(Clone, Copy)]
 pub struct Keep;
 
-/// What becomes of each register. Narrow hulls have no lanes for E and F, so the parts for these are ignored there.
+/// What becomes of each register, by a type each. Here alone all five are named.
 #[derive(Clone, Copy)]
 pub struct Parts<C, E, D, F, R> {
     pub c: C,
@@ -52,55 +134,12 @@ pub struct Parts<C, E, D, F, R> {
     pub r: R,
 }
 
-/// Whether any part reads the next cell.
+/// Whether all parts may be evaluated on the ends that hulls have.
 #[inline(always)]
-pub(crate) fn has_tail<C: Part, E: Part, D: Part, F: Part, R: Part>(
-    parts: Parts<C, E, D, F, R>,
-) -> bool
-    ensures { result
-        ≡ (C.tails parts.c || (E.tails parts.e || (D.tails parts.d || (F.tails parts.f || R.tails parts.r)))) }
+fn are_for<H: Packed, P: EachPart>(parts: P) -> bool
+    ensures { result ≡ true → IsCutFor H.sides (P.splits parts) }
 {
-    parts.c.has_tail()
-        || parts.e.has_tail()
-        || parts.d.has_tail()
-        || parts.f.has_tail()
-        || parts.r.has_tail()
-}
-
-/// Whether the parts that narrow hulls have may be evaluated on one end alone.
-#[inline(always)]
-fn are_narrow<C: Part, E: Part, D: Part, F: Part, R: Part>(parts: Parts<C, E, D, F, R>) -> bool
-    ensures { result ≡ true → (s : Sides) →
-        IsCutFor s (each (C.split parts.c) (E.split parts.e) (D.split parts.d) (F.split parts.f) (R.split parts.r)) }
-{
-    parts.c.is_narrow() & parts.d.is_narrow() & parts.r.is_narrow()
-}
-
-/// Whether the parts may be evaluated on the ends that hulls have.
-#[inline(always)]
-fn are_for<H: Packed, C: Part, E: Part, D: Part, F: Part, R: Part>(
-    parts: Parts<C, E, D, F, R>,
-) -> bool
-    ensures { result ≡ true → IsCutFor H.sides
-        (each (C.split parts.c) (E.split parts.e) (D.split parts.d) (F.split parts.f) (R.split parts.r)) }
-{
-    H::has_both() || are_narrow(parts)
-}
-
-/// Whether all parts may be evaluated and closed on all lanes that a cover bounds.
-#[inline(always)]
-fn are_fit<C: Part, E: Part, D: Part, F: Part, R: Part>(
-    parts: Parts<C, E, D, F, R>,
-    cover: &Cover,
-) -> bool
-    ensures { result ≡ true → (xs : List ℤ) → IsBounded cover.now xs → (k : Name) →
-        fits_by (C.fit parts.c) (E.fit parts.e) (D.fit parts.d) (F.fit parts.f) (R.fit parts.r) k xs }
-{
-    parts.c.is_fit(cover)
-        & parts.e.is_fit(cover)
-        & parts.d.is_fit(cover)
-        & parts.f.is_fit(cover)
-        & parts.r.is_fit(cover)
+    H::has_both() || parts.are_narrow()
 }
 
 /// The front of E or F; in a narrow hull, which has no lanes for them, it is 0.
@@ -185,101 +224,92 @@ impl<H: Packed> Moves<H> for Keep {
     }
 }
 
-impl<H: Packed, C: Part, E: Part, D: Part, F: Part, R: Part> Fronts<H> for Parts<C, E, D, F, R> {
-    ghost use Rattle.std.specs.Prelude.{◌||◌, cond};
-    ghost use Rattle.std.proofs.Common.{inl};
+impl<C: Part, E: Part, D: Part, F: Part, R: Part> EachPart for Parts<C, E, D, F, R> {
     ghost use Rattle.ts_automaton.specs.Registers.{each};
-    ghost use Rattle.ts_sweep.specs.declared.packed.Name.TheVariants.{C as NameC, E as NameE, D as NameD, F as NameF, R as NameR};
-    ghost use Rattle.ts_sweep.specs.Fronts.{IsCutFor};
-    ghost use Rattle.ts_sweep.specs.Lanes.{some_lanes};
-    ghost use Rattle.ts_sweep.specs.Packed.{ends_in, is_wide, place};
-    ghost use Rattle.ts_sweep.specs.Sides.{as_read};
-    ghost use Rattle.ts_sweep.specs.Moves.{IsFitFor, IsClosableBy, closes_by, ends_by, fits_by, fronts_by, replaced_all};
-    ghost use Rattle.ts_sweep.specs.MoveLaws.{by_names, parts_none, parts_both, parts_front};
+    ghost use Rattle.ts_sweep.specs.Moves.{closes_by, fits_by, of_name};
+    ghost use Rattle.ts_sweep.specs.MoveLaws.{by_names};
 
-    ghost fit = { λ k h. IsFitFor H.sides H.count
-        (fits_by (C.fit k.c) (E.fit k.e) (D.fit k.d) (F.fit k.f) (R.fit k.r)) (H.lanes h)
-        × IsCutFor H.sides (each (C.split k.c) (E.split k.e) (D.split k.d) (F.split k.f) (R.split k.r)) };
+    ghost splits = { λ k. each (C.split k.c) (E.split k.e) (D.split k.d) (F.split k.f) (R.split k.r) };
 
-    ghost closable = { λ k h. IsClosableBy H.sides H.count
-        (closes_by (C.closable k.c) (E.closable k.e) (D.closable k.d) (F.closable k.f) (R.closable k.r)) (H.lanes h) };
+    ghost tails = { λ k. of_name (each (C.tails k.c) (E.tails k.e) (D.tails k.d) (F.tails k.f) (R.tails k.r)) };
 
-    ghost front = { λ k h v. cond (some_lanes (H.lanes h))
-        (replaced_all H.replaced h (ends_by (is_wide H.count) (C.front k.c (as_read H.sides (H.lanes h)) v)
-        (E.front k.e (as_read H.sides (H.lanes h)) v) (D.front k.d (as_read H.sides (H.lanes h)) v)
-        (F.front k.f (as_read H.sides (H.lanes h)) v) (R.front k.r (as_read H.sides (H.lanes h)) v))) H.none };
+    ghost fits = { λ k. fits_by (C.fit k.c) (E.fit k.e) (D.fit k.d) (F.fit k.f) (R.fit k.r) };
 
-    ghost closing = { λ k h w. cond (C.tails k.c || (E.tails k.e || (D.tails k.d || (F.tails k.f || R.tails k.r))))
-        (cond (some_lanes (H.lanes h))
-        (replaced_all H.replaced h (ends_by (is_wide H.count)
-        (C.closing k.c (ends_in (as_read H.sides (H.lanes h)) (place H.count NameC)) w)
-        (E.closing k.e (ends_in (as_read H.sides (H.lanes h)) (place H.count NameE)) w)
-        (D.closing k.d (ends_in (as_read H.sides (H.lanes h)) (place H.count NameD)) w)
-        (F.closing k.f (ends_in (as_read H.sides (H.lanes h)) (place H.count NameF)) w)
-        (R.closing k.r (ends_in (as_read H.sides (H.lanes h)) (place H.count NameR)) w)))
-        H.none) h };
+    ghost fronts = { λ k. of_name (each (C.front k.c) (E.front k.e) (D.front k.d) (F.front k.f) (R.front k.r)) };
 
-    ghost closes_none = { λ k w. parts_none H.lanes H.count H.none H.none_lanes
-        (C.tails k.c || (E.tails k.e || (D.tails k.d || (F.tails k.f || R.tails k.r)))) _ };
+    ghost closables = { λ k. closes_by (C.closable k.c) (E.closable k.e) (D.closable k.d) (F.closable k.f)
+        (R.closable k.r) };
 
-    ghost closable_none = { λ k. inl H.none_lanes };
+    ghost closings = { λ k. of_name (each (C.closing k.c) (E.closing k.e) (D.closing k.d) (F.closing k.f)
+        (R.closing k.r)) };
 
-    ghost closable_both = { λ k a b p q. parts_both H.both H.lanes H.count H.both_lanes H.sides
-        (closes_by (C.closable k.c) (E.closable k.e) (D.closable k.d) (F.closable k.f) (R.closable k.r))
-        (by_names _ (C.closable_both k.c) (E.closable_both k.e) (D.closable_both k.d) (F.closable_both k.f)
-        (R.closable_both k.r)) a b p q };
+    ghost closables_both = { λ k. by_names _ (C.closable_both k.c) (E.closable_both k.e) (D.closable_both k.d)
+        (F.closable_both k.f) (R.closable_both k.r) };
 
-    ghost closable_front = { λ k h v p small. parts_front H.sides H.lanes H.replaced H.count H.none H.none_lanes
-        H.replaced_lanes H.alone
-        (fits_by (C.fit k.c) (E.fit k.e) (D.fit k.d) (F.fit k.f) (R.fit k.r))
-        (each (C.split k.c) (E.split k.e) (D.split k.d) (F.split k.f) (R.split k.r))
-        (fronts_by (λ xs. C.front k.c xs v) (λ xs. E.front k.e xs v) (λ xs. D.front k.d xs v) (λ xs. F.front k.f xs v)
-        (λ xs. R.front k.r xs v)) v
-        (by_names _ (λ xs i are suits g. C.front_packs k.c H.sides xs i v are suits g small)
-        (λ xs i are suits g. E.front_packs k.e H.sides xs i v are suits g small)
-        (λ xs i are suits g. D.front_packs k.d H.sides xs i v are suits g small)
-        (λ xs i are suits g. F.front_packs k.f H.sides xs i v are suits g small)
-        (λ xs i are suits g. R.front_packs k.r H.sides xs i v are suits g small)) p.1
-        (closes_by (C.closable k.c) (E.closable k.e) (D.closable k.d) (F.closable k.f) (R.closable k.r))
-        (by_names _ (λ xs g. C.closable_front k.c xs v g small) (λ xs g. E.closable_front k.e xs v g small)
-        (λ xs g. D.closable_front k.d xs v g small) (λ xs g. F.closable_front k.f xs v g small)
-        (λ xs g. R.closable_front k.r xs v g small))
-        (by_names _ (λ e g. C.closable_read k.c H.sides e g) (λ e g. E.closable_read k.e H.sides e g)
-        (λ e g. D.closable_read k.d H.sides e g) (λ e g. F.closable_read k.f H.sides e g)
-        (λ e g. R.closable_read k.r H.sides e g)) h p.0 };
+    ghost closables_front = { λ k x small. by_names _ (λ xs g. C.closable_front k.c xs x g small)
+        (λ xs g. E.closable_front k.e xs x g small) (λ xs g. D.closable_front k.d xs x g small)
+        (λ xs g. F.closable_front k.f xs x g small) (λ xs g. R.closable_front k.r xs x g small) };
+
+    ghost closables_read = { λ k s. by_names _ (C.closable_read k.c s) (E.closable_read k.e s) (D.closable_read k.d s)
+        (F.closable_read k.f s) (R.closable_read k.r s) };
+
+    ghost fronts_pack = { λ k s x small. by_names _ (λ xs h are suits g. C.front_packs k.c s xs h x are suits g small)
+        (λ xs h are suits g. E.front_packs k.e s xs h x are suits g small)
+        (λ xs h are suits g. D.front_packs k.d s xs h x are suits g small)
+        (λ xs h are suits g. F.front_packs k.f s xs h x are suits g small)
+        (λ xs h are suits g. R.front_packs k.r s xs h x are suits g small) };
+
+    ghost no_tails = { λ k y. by_names _ (λ t s. C.no_tail k.c t s y) (λ t s. E.no_tail k.e t s y)
+        (λ t s. D.no_tail k.d t s y) (λ t s. F.no_tail k.f t s y) (λ t s. R.no_tail k.r t s y) };
+
+    ghost closings_pack = { λ k s y small. by_names _ (λ e t p h. C.closing_packs k.c s e t y p h small)
+        (λ e t p h. E.closing_packs k.e s e t y p h small) (λ e t p h. D.closing_packs k.d s e t y p h small)
+        (λ e t p h. F.closing_packs k.f s e t y p h small) (λ e t p h. R.closing_packs k.r s e t y p h small) };
 
     #[inline(always)]
-    fn taken(self, run: H, h: H, value: i64) -> H {
-        if !h.is_some() {
-            return run;
-        }
-        let c = self.c.begun(h, value);
-        let e = begun_beside::<H, E>(self.e, h, value);
-        let d = self.d.begun(h, value);
-        let f = begun_beside::<H, F>(self.f, h, value);
-        let r = self.r.begun(h, value);
-        run.joined(
-            h.with(Name::C, c)
-                .with(Name::E, e)
-                .with(Name::D, d)
-                .with(Name::F, f)
-                .with(Name::R, r),
-        )
+    fn any_tail(self) -> bool {
+        self.c.has_tail()
+            || self.e.has_tail()
+            || self.d.has_tail()
+            || self.f.has_tail()
+            || self.r.has_tail()
     }
 
     #[inline(always)]
-    fn closed(self, run: H, next_value: i64) -> H {
-        if !has_tail(self) {
-            return run;
-        }
-        if !run.is_some() {
-            return H::nothing();
-        }
-        let c = self.c.closed(run.ends(Name::C), next_value);
-        let e = closed_beside::<H, E>(self.e, run, Name::E, next_value);
-        let d = self.d.closed(run.ends(Name::D), next_value);
-        let f = closed_beside::<H, F>(self.f, run, Name::F, next_value);
-        let r = self.r.closed(run.ends(Name::R), next_value);
+    fn are_narrow(self) -> bool {
+        self.c.is_narrow() & self.d.is_narrow() & self.r.is_narrow()
+    }
+
+    #[inline(always)]
+    fn are_fit(self, cover: &Cover) -> bool {
+        self.c.is_fit(cover)
+            & self.e.is_fit(cover)
+            & self.d.is_fit(cover)
+            & self.f.is_fit(cover)
+            & self.r.is_fit(cover)
+    }
+
+    #[inline(always)]
+    fn all_begun<H: Packed>(self, h: H, x: i64) -> H {
+        let c = self.c.begun(h, x);
+        let e = begun_beside::<H, E>(self.e, h, x);
+        let d = self.d.begun(h, x);
+        let f = begun_beside::<H, F>(self.f, h, x);
+        let r = self.r.begun(h, x);
+        h.with(Name::C, c)
+            .with(Name::E, e)
+            .with(Name::D, d)
+            .with(Name::F, f)
+            .with(Name::R, r)
+    }
+
+    #[inline(always)]
+    fn all_closed<H: Packed>(self, run: H, y: i64) -> H {
+        let c = self.c.closed(run.ends(Name::C), y);
+        let e = closed_beside::<H, E>(self.e, run, Name::E, y);
+        let d = self.d.closed(run.ends(Name::D), y);
+        let f = closed_beside::<H, F>(self.f, run, Name::F, y);
+        let r = self.r.closed(run.ends(Name::R), y);
         run.with(Name::C, c)
             .with(Name::E, e)
             .with(Name::D, d)
@@ -288,45 +318,77 @@ impl<H: Packed, C: Part, E: Part, D: Part, F: Part, R: Part> Fronts<H> for Parts
     }
 }
 
-impl<H: Packed, C: Part, E: Part, D: Part, F: Part, R: Part> Moves<H> for Parts<C, E, D, F, R> {
-    ghost use Rattle.ts_automaton.specs.Registers.{each};
+impl<H: Packed, P: EachPart> Fronts<H> for P {
+    ghost use Rattle.std.specs.Prelude.{cond};
+    ghost use Rattle.std.proofs.Common.{inl};
+    ghost use Rattle.ts_sweep.specs.Fronts.{IsCutFor};
+    ghost use Rattle.ts_sweep.specs.Lanes.{some_lanes};
     ghost use Rattle.ts_sweep.specs.Packed.{is_wide};
-    ghost use Rattle.ts_sweep.specs.Moves.{closes_by, closings_by, fits_by, fronts_by, of_name, of_width};
-    ghost use Rattle.ts_sweep.specs.MoveLaws.{by_names, parts_front_is, parts_closing_is};
+    ghost use Rattle.ts_sweep.specs.Sides.{as_read};
+    ghost use Rattle.ts_sweep.specs.Moves.{IsClosableBy, IsFitFor, any_tail, begun_by, closed_by, replaced_all};
+    ghost use Rattle.ts_sweep.specs.MoveLaws.{parts_none, parts_both, parts_front};
 
-    ghost cut = { λ k. of_width (is_wide H.count)
-        (each (C.split k.c) (E.split k.e) (D.split k.d) (F.split k.f) (R.split k.r)) };
+    ghost fit = { λ k h. IsFitFor H.sides H.count (P.fits k) (H.lanes h) × IsCutFor H.sides (P.splits k) };
+
+    ghost closable = { λ k h. IsClosableBy H.sides H.count (P.closables k) (H.lanes h) };
+
+    ghost front = { λ k h v. cond (some_lanes (H.lanes h))
+        (replaced_all H.replaced h (begun_by (is_wide H.count) (λ m xs. P.fronts k m xs v)
+        (as_read H.sides (H.lanes h)))) H.none };
+
+    ghost closing = { λ k h w. cond (any_tail (P.tails k)) (cond (some_lanes (H.lanes h))
+        (replaced_all H.replaced h (closed_by H.count (λ m e. P.closings k m e w) (as_read H.sides (H.lanes h))))
+        H.none) h };
+
+    ghost closes_none = { λ k w. parts_none H.lanes H.count H.none H.none_lanes (any_tail (P.tails k)) _ };
+
+    ghost closable_none = { λ k. inl H.none_lanes };
+
+    ghost closable_both = { λ k a b p q. parts_both H.both H.lanes H.count H.both_lanes H.sides (P.closables k)
+        (P.closables_both k) a b p q };
+
+    ghost closable_front = { λ k h v p small. parts_front H.sides H.lanes H.replaced H.count H.none H.none_lanes
+        H.replaced_lanes H.alone (P.fits k) (P.splits k) (λ m xs. P.fronts k m xs v) v
+        (P.fronts_pack k H.sides v small) p.1 (P.closables k) (P.closables_front k v small)
+        (P.closables_read k H.sides) h p.0 };
+
+    #[inline(always)]
+    fn taken(self, run: H, h: H, value: i64) -> H {
+        if !h.is_some() {
+            return run;
+        }
+        run.joined(self.all_begun(h, value))
+    }
+
+    #[inline(always)]
+    fn closed(self, run: H, next_value: i64) -> H {
+        if !self.any_tail() {
+            return run;
+        }
+        if !run.is_some() {
+            return H::nothing();
+        }
+        self.all_closed(run, next_value)
+    }
+}
+
+impl<H: Packed, P: EachPart> Moves<H> for P {
+    ghost use Rattle.ts_sweep.specs.Packed.{is_wide};
+    ghost use Rattle.ts_sweep.specs.Moves.{of_width};
+    ghost use Rattle.ts_sweep.specs.MoveLaws.{parts_front_is, parts_closing_is};
+
+    ghost cut = { λ k. of_width (is_wide H.count) (P.splits k) };
 
     ghost front_is = { λ k h v big p small. parts_front_is H.sides H.lanes H.replaced H.count H.none H.none_lanes
-        H.replaced_lanes H.alone
-        (fits_by (C.fit k.c) (E.fit k.e) (D.fit k.d) (F.fit k.f) (R.fit k.r))
-        (each (C.split k.c) (E.split k.e) (D.split k.d) (F.split k.f) (R.split k.r))
-        (fronts_by (λ xs. C.front k.c xs v) (λ xs. E.front k.e xs v) (λ xs. D.front k.d xs v) (λ xs. F.front k.f xs v)
-        (λ xs. R.front k.r xs v)) v
-        (by_names _ (λ xs i are suits g. C.front_packs k.c H.sides xs i v are suits g small)
-        (λ xs i are suits g. E.front_packs k.e H.sides xs i v are suits g small)
-        (λ xs i are suits g. D.front_packs k.d H.sides xs i v are suits g small)
-        (λ xs i are suits g. F.front_packs k.f H.sides xs i v are suits g small)
-        (λ xs i are suits g. R.front_packs k.r H.sides xs i v are suits g small)) p.1 h big p.0 };
+        H.replaced_lanes H.alone (P.fits k) (P.splits k) (λ m xs. P.fronts k m xs v) v
+        (P.fronts_pack k H.sides v small) p.1 h big p.0 };
 
     ghost closing_is = { λ k run w big p small. parts_closing_is H.sides H.lanes H.replaced H.count H.none H.none_lanes
-        H.replaced_lanes H.alone H.shown
-        (closes_by (C.closable k.c) (E.closable k.e) (D.closable k.d) (F.closable k.f) (R.closable k.r))
-        (each (C.split k.c) (E.split k.e) (D.split k.d) (F.split k.f) (R.split k.r))
-        (of_name (each (C.tails k.c) (E.tails k.e) (D.tails k.d) (F.tails k.f) (R.tails k.r)))
-        (closings_by (λ e. C.closing k.c e w) (λ e. E.closing k.e e w) (λ e. D.closing k.d e w) (λ e. F.closing k.f e w)
-        (λ e. R.closing k.r e w)) w
-        (by_names _ (λ e t g h. C.closing_packs k.c H.sides e t w g h small)
-        (λ e t g h. E.closing_packs k.e H.sides e t w g h small)
-        (λ e t g h. D.closing_packs k.d H.sides e t w g h small)
-        (λ e t g h. F.closing_packs k.f H.sides e t w g h small)
-        (λ e t g h. R.closing_packs k.r H.sides e t w g h small))
-        (by_names _ (λ t s. C.no_tail k.c t s w) (λ t s. E.no_tail k.e t s w) (λ t s. D.no_tail k.d t s w)
-        (λ t s. F.no_tail k.f t s w)
-        (λ t s. R.no_tail k.r t s w)) run big p };
+        H.replaced_lanes H.alone H.shown (P.closables k) (P.splits k) (P.tails k) (λ m e. P.closings k m e w) w
+        (P.closings_pack k H.sides w small) (P.no_tails k w) run big p };
 
     #[inline(always)]
     fn is_fit(self, cover: &Cover) -> bool {
-        are_for::<H, C, E, D, F, R>(self) && are_fit(self, cover)
+        are_for::<H, P>(self) && self.are_fit(cover)
     }
 }

@@ -14,7 +14,7 @@ ghost use Rattle.ts_sweep.specs.Packed.{ArePacked, is_wide};
 
 use crate::any_part::AnyPart;
 use crate::cover::Cover;
-use crate::moves::{Parts, has_tail};
+use crate::moves::{EachPart, Parts};
 use crate::packed::Packed;
 use crate::reading::Reading;
 use crate::take::{take_column, take_next};
@@ -96,7 +96,7 @@ fn take_parts<H: Packed, V: Values, W: Values>(
         (V.value values) before.now (W.len next_values) (W.value next_values) next.old next.new }
     ensures kept { result ≡ false → next.new ≡ next.old }
 {
-    if !has_tail(parts) {
+    if !parts.any_tail() {
         return take_column::<H, _, V, W>(
             parts,
             letter,

@@ -8,10 +8,10 @@ use Rattle.ts_sweep.proofs.swept.take_parts.Goals as goal
 pub take_column-requires-clause-whole : goal.take_column-requires-clause-whole
 take_column-requires-clause-whole g c =
     whole_width (is_wide g.H.Packed.count) (parts_cut c.args.parts)
-    (parts_whole c.args.parts (sym c.has_tail.ensures ∙ c.if-not-has_tail.true))
+    (parts_whole c.args.parts (sym c.any_tail.ensures ∙ c.if-not-any_tail.true))
 
-pub returns-then-not-has_tail-clause-taken : goal.returns-then-not-has_tail-clause-taken
-returns-then-not-has_tail-clause-taken g c =
+pub returns-then-not-any_tail-clause-taken : goal.returns-then-not-any_tail-clause-taken
+returns-then-not-any_tail-clause-taken g c =
     let wide = is_wide g.H.Packed.count in
     λ is m width cut_is. c.take_column.ensures.taken is m (width_cut wide m width ∙ ap (of_width wide) cut_is)
 

@@ -1,6 +1,6 @@
 use Rattle.std.proofs.Common.{◌&&◌}
 use Rattle.std.proofs.lemmas.Bool.{and_parts}
-use Rattle.ts_sweep.proofs.moves.are_narrow.Goals as goal
+use Rattle.ts_sweep.proofs.moves.PartsEachPart.are_narrow.Goals as goal
 
 pub returns : goal.returns
 returns g c =
