@@ -2,7 +2,7 @@
 -- Lemmas, no definitions: they are here since ghost members of impls cite them.
 use Rattle.std.proofs.Common.{◌≡◌, ◌⊎◌, inl, inr, ℕ, zero, suc, ◌+◌, ◌*◌, ◌<◌, ◌≤◌, ◌<ℤ◌, ℤ, pos, Bool, true, false, cond, ◌||◌, not, Option, None, Some, nat_eq, List, [], ◌∷◌, length, get_or, set, refl, sym, ap, subst, ◌∙◌, arith}
 use Rattle.std.specs.Ordering.{int_eq}
-use Rattle.std.proofs.lemmas.Bool.{eqb-true, eqb-false, leb-true}
+use Rattle.std.proofs.lemmas.Bool.{eqb-true, eqb-false}
 use Rattle.std.proofs.lemmas.Int.{ints}
 use Rattle.std.proofs.lemmas.List.{get_or-set_same, get_or-set_other, length-set}
 use Rattle.ts_base.specs.declared.ext.Ext.TheVariants.{Int}
@@ -26,7 +26,7 @@ use Rattle.ts_sweep.specs.Lanes.{least, no_lanes, some_lanes, greater_of}
 use Rattle.ts_sweep.specs.LaneLaws.{lanes_neutral, lanes_commutative, lanes_idempotent}
 use Rattle.ts_sweep.specs.Packed.{ends_at, ends_span, register_span, is_wide, place_in, place, ends_in, with_ends_at, with_ends_in, span_in_lanes, name_span, hull_by, unpacked, max_ends, IsPlace, IsSomeEnds, AreSome, IsPacked, IsPackOf}
 use Rattle.ts_sweep.specs.PackedLaws.{some_lanes_are, same_ends, some_greater, greater_ends, placed, rests_at, name_some, same_by, none_unpacked, joined_packed}
-use Rattle.ts_sweep.specs.Fronts.{AreEndsOf, IsCutFor, IsFor, IsSplitFor}
+use Rattle.ts_sweep.specs.Fronts.{name_of, AreEndsOf, IsCutFor, IsFor, IsSplitFor}
 use Rattle.ts_sweep.specs.FrontLaws.{pack_at, never_added}
 use Rattle.ts_sweep.specs.Sides.{Sides, BothEnds, UpperEnds, LowerEnds, IsEndsOf, as_read, kept_ends, read_ends, seen, seen_hull}
 use Rattle.ts_sweep.specs.SidesLaws.{both_kept, ends_of_pack, kept_packs, narrow_or_both, read_in, read_kept, read_length, read_pack}
@@ -101,81 +101,77 @@ all_some n xs e big h s =
     (with_some n _ (place n E) (e E) (placed n E big) (with_some n xs (place n C) (e C) (placed n C big) h (s C)) (s E))
     (s D)) (s F)) (s R)
 
--- lanes with other ends of all registers, whose places go by the width
-abbrev all_in : Bool → List ℤ → (Name → Ends) → List ℤ
-all_in wide xs e =
-    with_ends_in
-    (with_ends_in
-    (with_ends_in (with_ends_in (with_ends_in xs (place_in wide C) (e C)) (place_in wide E) (e E)) (place_in wide D)
-    (e D))
-    (place_in wide F) (e F))
-    (place_in wide R) (e R)
-
+-- the ends of a register stay where they were put: no other register has its place
 abbrev HasEnds : Option ℕ → List ℤ → Ends → Type 0
 HasEnds o ys e = IfPlaced o (ends_in ys o ≡ e)
 
-module _ (xs : List ℤ) (e : Name → Ends) where
-  abbrev n0 : List ℤ
-  n0 = with_ends_at xs 0 (e C)
+abbrev IsNameAt : Bool → Name → Option ℕ → Type 0
+IsNameAt wide k None = Unit {0}
+IsNameAt wide k (Some p) = name_of (cond wide p (p + p)) ≡ k
 
-  abbrev n1 : List ℤ
-  n1 = with_ends_at n0 1 (e D)
+name_at_place : (wide : Bool) (k : Name) → IsNameAt wide k (place_in wide k)
+name_at_place true C = refl
+name_at_place true E = refl
+name_at_place true D = refl
+name_at_place true F = refl
+name_at_place true R = refl
+name_at_place false C = refl
+name_at_place false E = tt
+name_at_place false D = refl
+name_at_place false F = tt
+name_at_place false R = refl
 
-  narrow_here : 6 ≤ length xs → (k : Name) → HasEnds (place_in false k) (all_in false xs e) (e k)
-  narrow_here long C =
-      ends_other n1 0 2 (e R) (λ s. omega (arith, s)) ∙ ends_other n0 0 1 (e D) (λ s. omega (arith, s))
-      ∙ ends_here xs 0 (e C) (omega (arith, long))
-  narrow_here long E = tt
-  narrow_here long D =
-      let l = with_length xs 0 (e C) in
-      ends_other n1 1 2 (e R) (λ s. omega (arith, s)) ∙ ends_here n0 1 (e D) (omega (arith, long, l))
-  narrow_here long F = tt
-  narrow_here long R =
-      let l = with_length n0 1 (e D) ∙ with_length xs 0 (e C) in ends_here n1 2 (e R) (omega (arith, long, l))
+module _ (n : ℕ) (e : Name → Ends) (big : 6 ≤ n) where
+  abbrev with_names : List ℤ → List Name → List ℤ
+  with_names xs [] = xs
+  with_names xs (k ∷ ks) = with_names (with_ends_in xs (place n k) (e k)) ks
 
-  abbrev w1 : List ℤ
-  w1 = with_ends_at n0 1 (e E)
+  one_length : (xs : List ℤ) (o : Option ℕ) (d : Ends) → length (with_ends_in xs o d) ≡ length xs
+  one_length xs None d = refl
+  one_length xs (Some q) d = with_length xs q d
 
-  abbrev w2 : List ℤ
-  w2 = with_ends_at w1 2 (e D)
+  names_length : (xs : List ℤ) (ks : List Name) → length (with_names xs ks) ≡ length xs
+  names_length xs [] = refl
+  names_length xs (k ∷ ks) = names_length (with_ends_in xs (place n k) (e k)) ks ∙ one_length xs (place n k) (e k)
 
-  abbrev w3 : List ℤ
-  w3 = with_ends_at w2 3 (e F)
+  one_here : (ys : List ℤ) (o : Option ℕ) (d : Ends) → length ys ≡ n → IsPlace n o → HasEnds o (with_ends_in ys o d) d
+  one_here ys None d len inside = tt
+  one_here ys (Some q) d len inside = ends_here ys q d (omega (arith, inside, len))
 
-  l1 : length w1 ≡ length xs
-  l1 = with_length n0 1 (e E) ∙ with_length xs 0 (e C)
+  one_other : (ys : List ℤ) (j k : Name) (o p : Option ℕ) → length ys ≡ n → IsPlace n p →
+      IsNameAt (is_wide n) k o → IsNameAt (is_wide n) j p → HasEnds o ys (e k) →
+      HasEnds o (with_ends_in ys p (e j)) (e k)
+  one_other ys j k None p len inside is other h = tt
+  one_other ys j k (Some r) None len inside is other h = h
+  one_other ys j k (Some r) (Some q) len inside is other h =
+      elim (same_or r q) [
+        | inl same ↦ ap (ends_at (with_ends_at ys q (e j))) same ∙ ends_here ys q (e j) (omega (arith, inside, len))
+            ∙ ap e (sym other ∙ ap (λ t. name_of (cond (is_wide n) t (t + t))) (sym same) ∙ is)
+        | inr apart ↦ ends_other ys r q (e j) apart ∙ h
+      ]
 
-  l2 : length w2 ≡ length xs
-  l2 = with_length w1 2 (e D) ∙ l1
+  still_here : (k : Name) (ks : List Name) (ys : List ℤ) → length ys ≡ n → HasEnds (place n k) ys (e k) →
+      HasEnds (place n k) (with_names ys ks) (e k)
+  still_here k [] ys len h = h
+  still_here k (j ∷ ks) ys len h =
+      still_here k ks (with_ends_in ys (place n j) (e j)) (one_length ys (place n j) (e j) ∙ len)
+      (one_other ys j k (place n k) (place n j) len (placed n j big) (name_at_place (is_wide n) k)
+      (name_at_place (is_wide n) j) h)
 
-  l3 : length w3 ≡ length xs
-  l3 = with_length w2 3 (e F) ∙ l2
+  put_here : (k : Name) (before after : List Name) (xs : List ℤ) → length xs ≡ n →
+      HasEnds (place n k) (with_names (with_names xs before) (k ∷ after)) (e k)
+  put_here k before after xs len =
+      let ys = with_names xs before in
+      let long = names_length xs before ∙ len in
+      still_here k after (with_ends_in ys (place n k) (e k)) (one_length ys (place n k) (e k) ∙ long)
+      (one_here ys (place n k) (e k) long (placed n k big))
 
-  wide_here : 10 ≤ length xs → (k : Name) → HasEnds (place_in true k) (all_in true xs e) (e k)
-  wide_here long C =
-      ends_other w3 0 4 (e R) (λ s. omega (arith, s)) ∙ ends_other w2 0 3 (e F) (λ s. omega (arith, s))
-      ∙ ends_other w1 0 2 (e D) (λ s. omega (arith, s))
-      ∙ ends_other n0 0 1 (e E) (λ s. omega (arith, s)) ∙ ends_here xs 0 (e C) (omega (arith, long))
-  wide_here long E =
-      let l = with_length xs 0 (e C) in
-      ends_other w3 1 4 (e R) (λ s. omega (arith, s)) ∙ ends_other w2 1 3 (e F) (λ s. omega (arith, s))
-      ∙ ends_other w1 1 2 (e D) (λ s. omega (arith, s))
-      ∙ ends_here n0 1 (e E) (omega (arith, long, l))
-  wide_here long D =
-      let l = l1 in
-      ends_other w3 2 4 (e R) (λ s. omega (arith, s)) ∙ ends_other w2 2 3 (e F) (λ s. omega (arith, s))
-      ∙ ends_here w1 2 (e D) (omega (arith, long, l))
-  wide_here long F =
-      let l = l2 in ends_other w3 3 4 (e R) (λ s. omega (arith, s)) ∙ ends_here w2 3 (e F) (omega (arith, long, l))
-  wide_here long R = let l = l3 in ends_here w3 4 (e R) (omega (arith, long, l))
-
-pub all_here : (n : ℕ) (xs : List ℤ) (e : Name → Ends) → 6 ≤ n → length xs ≡ n → (k : Name) →
-    HasEnds (place n k) (with_all n xs e) (e k)
-all_here n xs e big len k = go (is_wide n) refl
-  where
-    go : (b : Bool) → is_wide n ≡ b → HasEnds (place_in b k) (all_in b xs e) (e k)
-    go true w = wide_here xs e (let long = leb-true 10 n w in omega (arith, long, len)) k
-    go false w = narrow_here xs e (omega (arith, big, len)) k
+  all_here : (xs : List ℤ) → length xs ≡ n → (k : Name) → HasEnds (place n k) (with_all n xs e) (e k)
+  all_here xs len C = put_here C [] (E ∷ D ∷ F ∷ R ∷ []) xs len
+  all_here xs len E = put_here E (C ∷ []) (D ∷ F ∷ R ∷ []) xs len
+  all_here xs len D = put_here D (C ∷ E ∷ []) (F ∷ R ∷ []) xs len
+  all_here xs len F = put_here F (C ∷ E ∷ D ∷ []) (R ∷ []) xs len
+  all_here xs len R = put_here R (C ∷ E ∷ D ∷ F ∷ []) [] xs len
 
 -- ends stand for the span of a register; one that has no place holds 0
 abbrev pub IsPackAt : Option ℕ → Ends → Span → Type 0
@@ -205,7 +201,7 @@ all_unpacked n xs e s big h p =
     let some = all_packed n xs e s big h p in
     same_by (name_span ys) s
     (λ k. ap (λ m. span_in_lanes ys (place m k)) some.len
-    ∙ pack_span n ys (place n k) (e k) (s k) (placed n k big) some (all_here n xs e big h.len k) (p k))
+    ∙ pack_span n ys (place n k) (e k) (s k) (placed n k big) some (all_here n e big xs h.len k) (p k))
 
 -- whether registers lie in lanes
 
@@ -321,15 +317,12 @@ read_are s n xs big h k =
     by_name F = read_name s n xs F big h
     by_name R = read_name s n xs R big h
 
--- E and F of narrow lanes
-module _ (n : ℕ) (xs : List ℤ) (big : 6 ≤ n) (h : AreSome n xs) (narrow : is_wide n ≡ false) where
-  pub e_rests : name_span xs E ≡ one_span (Int (pos 0))
-  e_rests =
-      name_at n xs E h.len ∙ ap (λ b. span_in_lanes xs (place_in b E)) narrow ∙ rests_at n xs (omega (arith, big)) h
-
-  pub f_rests : name_span xs F ≡ one_span (Int (pos 0))
-  f_rests =
-      name_at n xs F h.len ∙ ap (λ b. span_in_lanes xs (place_in b F)) narrow ∙ rests_at n xs (omega (arith, big)) h
+-- a register for which narrow lanes have no place is 0 in them
+rest_zero : (n : ℕ) (xs : List ℤ) (m : Name) → 6 ≤ n → AreSome n xs → place_in false m ≡ None → is_wide n ≡ false →
+    name_span xs m ≡ one_span (Int (pos 0))
+rest_zero n xs m big h absent narrow =
+    name_at n xs m h.len ∙ ap (λ b. span_in_lanes xs (place_in b m)) narrow ∙ ap (span_in_lanes xs) absent
+    ∙ rests_at n xs (omega (arith, big)) h
 
 rest_closed : (wide : Bool) (p : Split) (s : Span) (w : ℤ) → (wide ≡ true → closed_span p s w ≡ s) →
     closed_span (rest_split wide p) s w ≡ s
@@ -341,17 +334,14 @@ rest_closed false p s w h = refl
 kept_some : (n : ℕ) (xs : List ℤ) (v : ℤ) → 6 ≤ n → AreSome n xs → unpacked xs
     ≡ hull_of (map_each (λ q. front_span q (unpacked xs) v) (kept_cut (is_wide n)))
 unfolding unpacked
-kept_some n xs v big h = same_hull refl (at_e (is_wide n) refl) refl (at_f (is_wide n) refl) refl
+kept_some n xs v big h =
+    same_hull refl (rest_kept E (FrontOf (Leaf AtomE)) refl refl (is_wide n) refl) refl
+    (rest_kept F (FrontOf (Leaf AtomF)) refl refl (is_wide n) refl) refl
   where
-    at_e : (b : Bool) → is_wide n ≡ b → name_span xs E ≡ front_span (rest_split b (FrontOf (Leaf AtomE)))
-        (unpacked xs) v
-    at_e true w = refl
-    at_e false w = e_rests n xs big h w
-
-    at_f : (b : Bool) → is_wide n ≡ b → name_span xs F ≡ front_span (rest_split b (FrontOf (Leaf AtomF)))
-        (unpacked xs) v
-    at_f true w = refl
-    at_f false w = f_rests n xs big h w
+    rest_kept : (m : Name) (p : Split) → place_in false m ≡ None → name_span xs m ≡ front_span p (unpacked xs) v →
+        (b : Bool) → is_wide n ≡ b → name_span xs m ≡ front_span (rest_split b p) (unpacked xs) v
+    rest_kept m p absent same true w = same
+    rest_kept m p absent same false w = rest_zero n xs m big h absent w
 
 pub kept_front : (s : Sides) (n : ℕ) (xs : List ℤ) (v : ℤ) → 6 ≤ n → seen_hull s (unpacked xs) ≡ unpacked xs →
     IsPacked n xs →
@@ -485,6 +475,17 @@ module _ {X : Type 0} (s : Sides) (lanes : X → List ℤ) (replaced : X → Nam
         (front : Name → List ℤ → Ends) (v : ℤ)
         (packs : (m : Name) (xs : List ℤ) (h : Hull) → AreEndsOf s xs h → IsSplitFor s (of_name k m) → fit m xs → IsEndsOf s (front m xs) (front_span (of_name k m) h v))
         (suits : IsCutFor s k) where
+      -- the front of E or F: lanes that have no place for it stand for 0
+      rest_packs : (xs : List ℤ) → 6 ≤ n → AreSome n xs → (m : Name) (q : ℕ) (b : Bool) → is_wide n ≡ b →
+          IfPlaced (cond b (Some q) None) (fit m (as_read s xs)) →
+          IsPackAt (cond b (Some q) None) (kept_ends s (beside b (front m (as_read s xs))))
+          (front_span (rest_split b (of_name k m)) (unpacked xs) v)
+      rest_packs xs big some m q true w f =
+          let both = narrow_or_both s (is_wide n) alone w in
+          both_kept s _ _ both (packs m (as_read s xs) (unpacked xs) (read_are s n xs big some)
+          (both_suits s (of_name k m) both) f)
+      rest_packs xs big some m q false w f = refl
+
       -- the front of each register of the width
       begun_packs : (xs : List ℤ) → 6 ≤ n → AreSome n xs → ((m : Name) → IfPlaced (place n m) (fit m (as_read s xs))) →
           (m : Name) →
@@ -492,28 +493,10 @@ module _ {X : Type 0} (s : Sides) (lanes : X → List ℤ) (replaced : X → Nam
           (seen_at s m (front_span (of_name (of_width (is_wide n) k) m) (unpacked xs) v))
       begun_packs xs big some fits C =
           kept_packs s _ _ (packs C (as_read s xs) (unpacked xs) (read_are s n xs big some) suits.0 (fits C))
-      begun_packs xs big some fits E = go (is_wide n) refl (fits E)
-        where
-          go : (b : Bool) → is_wide n ≡ b → IfPlaced (place_in b E) (fit E (as_read s xs)) →
-              IsPackAt (place_in b E) (kept_ends s (beside b (front E (as_read s xs))))
-              (front_span (rest_split b k.e) (unpacked xs) v)
-          go true w f =
-              let both = narrow_or_both s (is_wide n) alone w in
-              both_kept s _ _ both (packs E (as_read s xs) (unpacked xs) (read_are s n xs big some)
-              (both_suits s k.e both) f)
-          go false w f = refl
+      begun_packs xs big some fits E = rest_packs xs big some E 1 (is_wide n) refl (fits E)
       begun_packs xs big some fits D =
           kept_packs s _ _ (packs D (as_read s xs) (unpacked xs) (read_are s n xs big some) suits.1.0 (fits D))
-      begun_packs xs big some fits F = go (is_wide n) refl (fits F)
-        where
-          go : (b : Bool) → is_wide n ≡ b → IfPlaced (place_in b F) (fit F (as_read s xs)) →
-              IsPackAt (place_in b F) (kept_ends s (beside b (front F (as_read s xs))))
-              (front_span (rest_split b k.f) (unpacked xs) v)
-          go true w f =
-              let both = narrow_or_both s (is_wide n) alone w in
-              both_kept s _ _ both (packs F (as_read s xs) (unpacked xs) (read_are s n xs big some)
-              (both_suits s k.f both) f)
-          go false w f = refl
+      begun_packs xs big some fits F = rest_packs xs big some F 3 (is_wide n) refl (fits F)
       begun_packs xs big some fits R =
           kept_packs s _ _ (packs R (as_read s xs) (unpacked xs) (read_are s n xs big some) suits.1.1.0 (fits R))
 
@@ -541,22 +524,20 @@ module _ {X : Type 0} (s : Sides) (lanes : X → List ℤ) (replaced : X → Nam
       closable_at can reads (Some p) m ys e here c =
           subst (can m) (sym (read_in s ys (Some p) ∙ ap (read_ends s) here ∙ read_kept s e)) (reads m e c)
 
+      rest_closable : (can : Name → Ends → Type 0) → ((m : Name) (xs : List ℤ) → fit m xs → can m (front m xs)) →
+          (xs : List ℤ) (m : Name) (q : ℕ) (b : Bool) → IfPlaced (cond b (Some q) None) (fit m xs) →
+          IfPlaced (cond b (Some q) None) (can m (beside b (front m xs)))
+      rest_closable can keeps xs m q true f = keeps m xs f
+      rest_closable can keeps xs m q false f = tt
+
       begun_closable : (can : Name → Ends → Type 0) → ((m : Name) (xs : List ℤ) → fit m xs → can m (front m xs)) →
           (xs : List ℤ) →
           ((m : Name) → IfPlaced (place n m) (fit m xs)) → (m : Name) →
           IfPlaced (place n m) (can m (begun_by (is_wide n) front xs m))
       begun_closable can keeps xs fits C = keeps C xs (fits C)
-      begun_closable can keeps xs fits E = go (is_wide n) (fits E)
-        where
-          go : (b : Bool) → IfPlaced (place_in b E) (fit E xs) → IfPlaced (place_in b E) (can E (beside b (front E xs)))
-          go true f = keeps E xs f
-          go false f = tt
+      begun_closable can keeps xs fits E = rest_closable can keeps xs E 1 (is_wide n) (fits E)
       begun_closable can keeps xs fits D = keeps D xs (fits D)
-      begun_closable can keeps xs fits F = go (is_wide n) (fits F)
-        where
-          go : (b : Bool) → IfPlaced (place_in b F) (fit F xs) → IfPlaced (place_in b F) (can F (beside b (front F xs)))
-          go true f = keeps F xs f
-          go false f = tt
+      begun_closable can keeps xs fits F = rest_closable can keeps xs F 3 (is_wide n) (fits F)
       begun_closable can keeps xs fits R = keeps R xs (fits R)
 
       pub parts_front : (can : Name → Ends → Type 0) → ((m : Name) (xs : List ℤ) → fit m xs → can m (front m xs)) →
@@ -576,7 +557,7 @@ module _ {X : Type 0} (s : Sides) (lanes : X → List ℤ) (replaced : X → Nam
             all_packed n xs (all_kept s e) (λ m. seen_at s m (front_span (of_name whole m) (unpacked xs) v)) p.0 p.1
                 (begun_packs xs p.0 p.1 p.2),
             λ m. closable_at can reads (place n m) m (with_all n xs (all_kept s e)) (e m)
-                (all_here n xs (all_kept s e) p.0 p.1.len m)
+                (all_here n (all_kept s e) p.0 xs p.1.len m)
                 (begun_closable can keeps (as_read s xs) p.2 m),
           ))
 
@@ -585,39 +566,39 @@ module _ {X : Type 0} (s : Sides) (lanes : X → List ℤ) (replaced : X → Nam
         (can : Name → Ends → Type 0) (k : Cut) (tail : Name → Bool) (close : Name → Ends → Ends) (w : ℤ)
         (packs : (m : Name) (e : Ends) (t : Span) → IsEndsOf s e t → can m e → IsEndsOf s (close m e) (closed_span (of_name k m) t w))
         (same : (m : Name) → tail m ≡ false → (t : Span) → closed_span (of_name k m) t w ≡ t) where
+      -- what is made of C, D or R, of which one has a place; and of E or F, where lanes without a place stand for 0
+      held_closed : (xs : List ℤ) → 6 ≤ n → AreSome n xs → (m : Name) → can m (ends_in (as_read s xs) (place n m)) →
+          IsPackOf (kept_ends s (close m (ends_in (as_read s xs) (place n m))))
+          (seen s (closed_span (of_name k m) (name_span xs m) w))
+      held_closed xs big some m c =
+          kept_packs s _ _ (packs m (ends_in (as_read s xs) (place n m)) (name_span xs m)
+          (read_name s n xs m big some) c)
+
+      rest_closed_packs : (xs : List ℤ) (m : Name) (q : ℕ) (b : Bool) → is_wide n ≡ b →
+          (is_wide n ≡ false → name_span xs m ≡ one_span (Int (pos 0))) →
+          IsEndsOf s (ends_in (as_read s xs) (cond b (Some q) None)) (name_span xs m) →
+          IfPlaced (cond b (Some q) None) (can m (ends_in (as_read s xs) (cond b (Some q) None))) →
+          IsPackAt (cond b (Some q) None)
+          (kept_ends s (beside b (close m (ends_in (as_read s xs) (cond b (Some q) None)))))
+          (closed_span (rest_split b (of_name k m)) (name_span xs m) w)
+      rest_closed_packs xs m q true t rests p c =
+          both_kept s _ _ (narrow_or_both s (is_wide n) alone t)
+          (packs m (ends_in (as_read s xs) (Some q)) (name_span xs m) p c)
+      rest_closed_packs xs m q false t rests p c = rests t
+
       closed_packs : (xs : List ℤ) → 6 ≤ n → AreSome n xs →
           ((m : Name) → IfPlaced (place n m) (can m (ends_in (as_read s xs) (place n m)))) → (m : Name) →
           IsPackAt (place n m) (all_kept s (closed_by n close (as_read s xs)) m)
           (seen_at s m (closed_span (of_name (of_width (is_wide n) k) m) (name_span xs m) w))
-      closed_packs xs big some cans C =
-          kept_packs s _ _ (packs C (ends_in (as_read s xs) (place n C)) (name_span xs C) (read_name s n xs C big some)
-          (cans C))
-      closed_packs xs big some cans E = go (is_wide n) refl (read_name s n xs E big some) (cans E)
-        where
-          go : (b : Bool) → is_wide n ≡ b → IsEndsOf s (ends_in (as_read s xs) (place_in b E)) (name_span xs E) →
-              IfPlaced (place_in b E) (can E (ends_in (as_read s xs) (place_in b E))) →
-              IsPackAt (place_in b E) (kept_ends s (beside b (close E (ends_in (as_read s xs) (place_in b E)))))
-              (closed_span (rest_split b k.e) (name_span xs E) w)
-          go true t p c =
-              both_kept s _ _ (narrow_or_both s (is_wide n) alone t)
-              (packs E (ends_in (as_read s xs) (place_in true E)) (name_span xs E) p c)
-          go false t p c = e_rests n xs big some t
-      closed_packs xs big some cans D =
-          kept_packs s _ _ (packs D (ends_in (as_read s xs) (place n D)) (name_span xs D) (read_name s n xs D big some)
-          (cans D))
-      closed_packs xs big some cans F = go (is_wide n) refl (read_name s n xs F big some) (cans F)
-        where
-          go : (b : Bool) → is_wide n ≡ b → IsEndsOf s (ends_in (as_read s xs) (place_in b F)) (name_span xs F) →
-              IfPlaced (place_in b F) (can F (ends_in (as_read s xs) (place_in b F))) →
-              IsPackAt (place_in b F) (kept_ends s (beside b (close F (ends_in (as_read s xs) (place_in b F)))))
-              (closed_span (rest_split b k.f) (name_span xs F) w)
-          go true t p c =
-              both_kept s _ _ (narrow_or_both s (is_wide n) alone t)
-              (packs F (ends_in (as_read s xs) (place_in true F)) (name_span xs F) p c)
-          go false t p c = f_rests n xs big some t
-      closed_packs xs big some cans R =
-          kept_packs s _ _ (packs R (ends_in (as_read s xs) (place n R)) (name_span xs R) (read_name s n xs R big some)
-          (cans R))
+      closed_packs xs big some cans C = held_closed xs big some C (cans C)
+      closed_packs xs big some cans E =
+          rest_closed_packs xs E 1 (is_wide n) refl (rest_zero n xs E big some refl) (read_name s n xs E big some)
+          (cans E)
+      closed_packs xs big some cans D = held_closed xs big some D (cans D)
+      closed_packs xs big some cans F =
+          rest_closed_packs xs F 3 (is_wide n) refl (rest_zero n xs F big some refl) (read_name s n xs F big some)
+          (cans F)
+      closed_packs xs big some cans R = held_closed xs big some R (cans R)
 
       closed_same : (xs : List ℤ) → any_tail tail ≡ false →
           unpacked xs ≡ closed_hull (of_width (is_wide n) k) (unpacked xs) w
@@ -656,11 +637,7 @@ module _ {X : Type 0} (s : Sides) (lanes : X → List ℤ) (replaced : X → Nam
           go false e (inl f) = subst (λ zs. IsClosingOf s whole n zs w zs) (sym f) (nothing_closing s whole n w big)
           go false e (inr p) = (inr p.1, sym (shown h big (inr p.1)) ∙ ap (seen_hull s) (closed_same xs e))
 
--- what is placed for E and F where lanes are wide
-pub wide_of : (wide : Bool) (P : Type 0) → IfPlaced (place_in wide E) P → wide ≡ true → P
-wide_of true P p e = p
-wide_of false P p e = cc
-
-pub wide_of_f : (wide : Bool) (P : Type 0) → IfPlaced (place_in wide F) P → wide ≡ true → P
-wide_of_f true P p e = p
-wide_of_f false P p e = cc
+-- what is placed for E or F where lanes are wide
+pub wide_of : (wide : Bool) (q : ℕ) (P : Type 0) → IfPlaced (cond wide (Some q) None) P → wide ≡ true → P
+wide_of true q P p e = p
+wide_of false q P p e = cc

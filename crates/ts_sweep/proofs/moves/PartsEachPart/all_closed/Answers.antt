@@ -3,7 +3,7 @@ use Rattle.ts_automaton.specs.Registers.{EachOf, each}
 use Rattle.ts_sweep.specs.declared.packed.Ends.{Ends}
 use Rattle.ts_sweep.specs.declared.packed.Name.{Name}
 use Rattle.ts_sweep.specs.declared.packed.Name.TheVariants.{C, E, D, F, R}
-use Rattle.ts_sweep.specs.MoveLaws.{wide_of, wide_of_f}
+use Rattle.ts_sweep.specs.MoveLaws.{wide_of}
 use Rattle.ts_sweep.specs.Moves.{beside}
 use Rattle.ts_sweep.specs.Packed.{ends_in, is_wide, place}
 use Rattle.ts_sweep.specs.Sides.{as_read}
@@ -21,10 +21,10 @@ pub closed-r-requires-clause-closable : goal.closed-r-requires-clause-closable
 closed-r-requires-clause-closable g c = subst (g.R.Part.closable c.args.self.r) (sym c.ends-3.ensures.placed) (c.requires.closable R)
 
 pub closed_beside-e-requires-clause-closable : goal.closed_beside-e-requires-clause-closable
-closed_beside-e-requires-clause-closable g c = wide_of (is_wide g.H.Packed.count) _ (c.requires.closable E)
+closed_beside-e-requires-clause-closable g c = wide_of (is_wide g.H.Packed.count) 1 _ (c.requires.closable E)
 
 pub closed_beside-f-requires-clause-closable : goal.closed_beside-f-requires-clause-closable
-closed_beside-f-requires-clause-closable g c = wide_of_f (is_wide g.H.Packed.count) _ (c.requires.closable F)
+closed_beside-f-requires-clause-closable g c = wide_of (is_wide g.H.Packed.count) 3 _ (c.requires.closable F)
 
 pub returns : goal.returns
 returns g c =
