@@ -117,10 +117,6 @@ filled_all n b count v h k w q next filled same = (
       ∙ sym (seen_total (sides n) (length b.states) (λ p. state_gives b p count v (h p) (w j) t)),
 )
 
--- what is said of the states of a row that took in a move holds of as many states
-pub row_kept : (n s k : ℕ) (a b : List (List (PackedHull n))) → IsRow n s k a → IsRow n (length a) k b → IsRow n s k b
-row_kept n s k a b row r = subst (λ z. IsRow n z k b) row.len r
-
 pub two_taken : (n s k : ℕ) (w : ℕ → ℤ) (f g h : ℤ → ℕ → Hull) (a b c : List (List (PackedHull n))) → IsRow n s k b → HasTaken n s k w f a b →
     HasTaken n (length b) k w g b c → ((x : ℤ) (t : ℕ) → hull_of_both (f x t) (g x t) ≡ h x t) → HasTaken n s k w h a c
 two_taken n s k w f g h a b c row p q same =

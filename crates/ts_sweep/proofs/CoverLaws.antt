@@ -3,10 +3,9 @@ use Rattle.std.proofs.Common.{◌≡◌, ℕ, zero, suc, ◌+◌, ◌*◌, ◌<�
 use Rattle.std.proofs.lemmas.Int.{ints}
 use Rattle.std.proofs.lemmas.List.{length-replicate}
 use Rattle.ts_sweep.specs.declared.cover.Cover.{Cover}
-use Rattle.ts_sweep.specs.declared.packed.Ends.{Ends}
 use Rattle.ts_sweep.specs.declared.packed.Name.{Name}
 use Rattle.ts_sweep.specs.declared.packed.PackedHull.{PackedHull}
-use Rattle.ts_sweep.specs.Covers.{turned, turned_hull, bound_ends, cover_ends, join_of, nothing_of, join_of_all, IsBounded, IsCoverOf}
+use Rattle.ts_sweep.specs.Covers.{turned, turned_hull, bound_ends, cover_ends, join_of, nothing_of, join_of_all, IsBounded}
 use Rattle.ts_sweep.specs.Fronts.{ArePlain}
 use Rattle.ts_sweep.specs.FrontLaws.{plain_at}
 use Rattle.ts_sweep.specs.Lanes.{least, no_lanes, greater_of, some_lanes}
@@ -15,7 +14,7 @@ use Rattle.ts_sweep.specs.MoveLaws.{not_nothing}
 use Rattle.ts_sweep.specs.Packed.{ends, ends_in, place, AreSome, AreWithin, IsPacked, IsPlace, IsUnder}
 use Rattle.ts_sweep.specs.PackedLaws.{placed, covered_is_under, length_greater}
 use Rattle.ts_sweep.specs.Sides.{Sides, BothEnds, UpperEnds, LowerEnds, sides, lanes_by, count_by, lane_count, lanes_in, as_read}
-use Rattle.ts_sweep.specs.SidesLaws.{joined_by, none_by, ones_are, packed_are, read_length, upper_read, lower_read, upper_get, lower_get, upper_length, lower_length}
+use Rattle.ts_sweep.specs.SidesLaws.{joined_by, none_by, ones_are, packed_are, read_length, upper_read, lower_read, upper_get, lower_get}
 use Rattle.ts_sweep.specs.Sweeps.{total}
 use Rattle.ts_sweep.proofs.CoverSteps.{covered}
 use Rattle.ts_sweep.proofs.Entries.{total_packed}
@@ -139,12 +138,6 @@ bounded n f count all other cover big all_is other_is other_long ends_are packed
     subst (λ m. AreWithin 1 (ends_in (as_read s (lanes_by s xs)) (place m k))) (sym (read_length s (lanes_by s xs) ∙ is_some.len))
     (sized_at s n xs all.at other.at (place (count_by s n) k) (placed (count_by s n) k big) (long i lt) all_long other_long is_some under
     turned_under (subst ArePlain (ends_are k) plain))
-
--- where an end of each register is infinite nothing is bounded
-pub never_plain : (xs : List ℤ) (cover : Cover) → ((k : Name) → cover_ends cover k ≡ ends (pos 9223372036854775807) (pos 9223372036854775807)) →
-    IsBounded cover xs
-never_plain xs cover is k plain =
-    let h = subst ArePlain (is k) plain in let a = h.0 in absurd (omega (arith, ints, a))
 
 -- where nothing is in the join of all hulls, nothing is in any
 pub none_reached : (n : ℕ) (f : ℕ → PackedHull n) (count : ℕ) → 6 ≤ lane_count n →

@@ -4,16 +4,9 @@ use Rattle.std.proofs.lemmas.Int.{ints}
 use mir.Val.{of_z, to_z}
 use mir.Syntax.{w64}
 use Rattle.ts_sweep.specs.Small.{IsSmall}
-use Rattle.ts_sweep.specs.Sweeps.{total, gathered, step_place, passes, bound_of, passed_hull, IsSteppedTo, IsTakenIn}
+use Rattle.ts_sweep.specs.Sweeps.{total, gathered, step_place, passes, passed_hull, IsSteppedTo, IsTakenIn}
 use Rattle.ts_sweep.proofs.Gathered.{gathered_takes, gathered_total}
 use Rattle.ts_sweep.proofs.RunSteps.{as_passed, begins, steps, ends, place_place}
-
--- a value is passed at the bound
-pub bound_passes : (up twin : Bool) (v w : ℤ) → passes up false v (bound_of up twin w) ≡ passes up twin v w
-bound_passes true true v w = grind (arith, ints)
-bound_passes true false v w = refl
-bound_passes false true v w = grind (arith, ints)
-bound_passes false false v w = refl
 
 -- in the order of a sweep
 abbrev Before : Bool → ℤ → ℤ → Type 0

@@ -104,7 +104,3 @@ joined_beside s r n i row h lt = record {
   len = length-set row (i * s + r) (hull_of_both (get_or row (i * s + r) none) h);
   same = λ p apart. get_or-set_other row (i * s + r) p (hull_of_both (get_or row (i * s + r) none) h) none (apart i lt);
 }
-
-pub joined_long : (s r n i : ℕ) (row : List Hull) (h : Hull) → length (map (hull_in s r (with_hull_at row (i * s + r) h)) (range_with_len 0 n))
-    ≡ length (map (hull_in s r row) (range_with_len 0 n))
-joined_long s r n i row h = columns_long s r n (with_hull_at row (i * s + r) h) ∙ sym (columns_long s r n row)

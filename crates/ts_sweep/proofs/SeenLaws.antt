@@ -1,10 +1,9 @@
 -- What is seen of a join is the join of what is seen; what is seen of a sum, a greatest or a least depends on what is seen of both.
-use Rattle.std.proofs.Common.{◌≡◌, ℕ, zero, suc, ◌<◌, Bool, true, false, cond, ℤ, pos, refl, sym, ap, subst, ◌∙◌, arith}
+use Rattle.std.proofs.Common.{◌≡◌, ℕ, zero, suc, Bool, true, false, cond, ℤ, refl, sym, ap, ◌∙◌}
 use Rattle.ts_base.specs.Numbers.{ext_le, ext_max, ext_min}
 use Rattle.ts_base.specs.Orders.{IsMonotone}
 use Rattle.ts_base.specs.declared.ext.Ext.{Ext}
 use Rattle.ts_base.specs.declared.ext.Ext.TheVariants.{NegInf, Int, PosInf}
-use Rattle.ts_base.specs.declared.op.Op.{Op}
 use Rattle.ts_base.specs.declared.span.Span.{Span}
 use Rattle.ts_base.specs.Spans.{has_some, none_span, one_span}
 use Rattle.ts_automaton.specs.Registers.{ext_op}
@@ -17,7 +16,6 @@ use Rattle.ts_hull.specs.Splits.{Split, FrontOf, TailOf, ByPairs, closed_span}
 use Rattle.ts_hull.specs.Sweeps.{total}
 use Rattle.ts_hull.proofs.HullLaws.{same_hull}
 use Rattle.ts_hull.proofs.SpanHulls.{both_is, both_hull, both_some, hull_both, hull_first, hull_second, hull_neither, lifted_both, lifted_none_left, lifted_none_right, lifted_some}
-use Rattle.ts_sweep.specs.FrontLaws.{never_added}
 use Rattle.ts_sweep.specs.Sides.{Sides, BothEnds, UpperEnds, LowerEnds, seen, seen_hull}
 
 -- spans
@@ -37,11 +35,6 @@ seen_some : (s : Sides) (t : Span) → has_some t ≡ true → seen s t ≡ show
 seen_some BothEnds t h = refl
 seen_some UpperEnds t h = ap (λ b. cond b (span_from NegInf t.hi) none_span) h
 seen_some LowerEnds t h = ap (λ b. cond b (span_from t.lo PosInf) none_span) h
-
-shown_some : (s : Sides) (t : Span) → has_some t ≡ true → has_some (shown_ends s t.lo t.hi) ≡ true
-shown_some BothEnds t h = h
-shown_some UpperEnds t h = refl
-shown_some LowerEnds t h = top_of t.lo
 
 pub some_seen : (s : Sides) (t : Span) → has_some (seen s t) ≡ has_some t
 some_seen BothEnds t = refl

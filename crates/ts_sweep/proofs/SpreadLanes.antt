@@ -96,9 +96,6 @@ some_or n xs ys big (inl e) (inr q) =
 some_or n xs ys big (inr p) (inr q) =
     first_is n (greater_of xs ys) big (some_greater n xs ys p q) ∙ ap (λ b. b || some_lanes ys) (sym (first_is n xs big p))
 
-max_none : max_ends no_ends no_ends ≡ no_ends
-max_none = refl
-
 -- ends of a constant for each hull in which registers lie are those ends, if there is such a hull
 module _ (test some run : ℕ → Bool) (begun : run 0 ≡ false) (count : ℕ)
     (more : (i : ℕ) → i < count → run (suc i) ≡ cond (test i) (run i || some i) (run i)) where

@@ -45,23 +45,11 @@ above_numbers x y a b c d =
 pub below_left : (x y : ℤ) → pos 9223372036854775807 ≤ℤ x → pos 9223372036854775807 ≡ sum_below x y
 below_left x y h = sym (ap (λ a. lane_of (negated (ext_plus (negated a) (negated (upper y))))) (upper_high x h))
 
-pub below_right : (x y : ℤ) → pos 9223372036854775807 ≤ℤ y → pos 9223372036854775807 ≡ sum_below x y
-below_right x y h =
-    sym (ap (λ b. lane_of (negated (ext_plus (negated (upper x)) (negated b)))) (upper_high y h)
-    ∙ ap (λ a. lane_of (negated a)) (plus_low (negated (upper x))))
-
 pub below_first : (x y : ℤ) → x ≤ℤ negsuc 9223372036854775806 → y <ℤ pos 9223372036854775807 → negsuc 9223372036854775806 ≡ sum_below x y
 below_first x y h k =
     sym (ap (λ a. lane_of (negated (ext_plus (negated a) (negated (upper y))))) (upper_low x h) ∙ elim (low_or_not y) [
       | inl low ↦ ap (λ b. lane_of (negated (ext_plus PosInf (negated b)))) (upper_low y low)
       | inr above ↦ ap (λ b. lane_of (negated (ext_plus PosInf (negated b)))) (upper_mid y above k)
-    ])
-
-pub below_second : (x y : ℤ) → x <ℤ pos 9223372036854775807 → y ≤ℤ negsuc 9223372036854775806 → negsuc 9223372036854775806 ≡ sum_below x y
-below_second x y k h =
-    sym (ap (λ b. lane_of (negated (ext_plus (negated (upper x)) (negated b)))) (upper_low y h) ∙ elim (low_or_not x) [
-      | inl low ↦ ap (λ a. lane_of (negated (ext_plus (negated a) PosInf))) (upper_low x low)
-      | inr above ↦ ap (λ a. lane_of (negated (ext_plus (negated a) PosInf))) (upper_mid x above k)
     ])
 
 turned : (x y : ℤ) → clamp (x +ℤ y) ≡ neg_ℤ (clamp (neg_ℤ x +ℤ neg_ℤ y))

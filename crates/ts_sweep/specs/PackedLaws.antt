@@ -74,51 +74,15 @@ span_max x y z w p q =
     ∙ ap (span_with (ext_min (negated (upper x)) (negated (upper z)))) (upper_max y w)
     ∙ hull_ends (span_of x y) (span_of z w) (span_is x y p) (span_is z w q)
 
-max_commutes : (x y : ℤ) → int_max x y ≡ int_max y x
-max_commutes x y = grind (arith, ints)
-
 max_same : (x : ℤ) → int_max x x ≡ x
 max_same x = grind (arith, ints)
 
 greater_left : (x y : ℤ) → least <ℤ x → least <ℤ int_max x y
 greater_left x y h = grind (arith, ints)
 
-greater_right : (x y : ℤ) → least <ℤ y → least <ℤ int_max x y
-greater_right x y h = grind (arith, ints)
-
 holds_some : (a b : Ext) → ext_le a b ≡ true → (c d : Ext) → ext_le (ext_min a c) (ext_max b d) ≡ true
 holds_some a b h c d =
     le_trans (ext_min a c) a (ext_max b d) (min_left a c) (le_trans a b (ext_max b d) h (ts_max_left b d))
-
-pair_max : (x y z w : ℤ) → IsPair x y → IsPair z w → IsPair (int_max x z) (int_max y w)
-pair_max x y z w (inl p) (inl q) =
-    inl (
-      greater_left x z p.0,
-      ap has_some (span_max x y z w (inl p) (inl q))
-          ∙ sym (ap has_some (hull_ends (span_of x y) (span_of z w) (inl p.1) (inl q.1)))
-          ∙ holds_some (negated (upper x)) (upper y) p.1 (negated (upper z)) (upper w),
-    )
-pair_max x y z w (inl p) (inr q) =
-    inl (
-      greater_left x z p.0,
-      ap has_some (span_max x y z w (inl p) (inr q))
-          ∙ sym (ap has_some (hull_ends (span_of x y) (span_of z w) (inl p.1) (inr (none_pair z w q.0 q.1))))
-          ∙ holds_some (negated (upper x)) (upper y) p.1 (negated (upper z)) (upper w),
-    )
-pair_max x y z w (inr p) (inl q) =
-    inl (
-      greater_right x z q.0,
-      ap has_some (ap (λ u. span_of u (int_max y w)) (max_commutes x z) ∙ ap (span_of (int_max z x)) (max_commutes y w))
-          ∙ ap has_some (span_max z w x y (inl q) (inr p))
-          ∙ sym (ap has_some (hull_ends (span_of z w) (span_of x y) (inl q.1) (inr (none_pair x y p.0 p.1))))
-          ∙ holds_some (negated (upper z)) (upper w) q.1 (negated (upper x)) (upper y),
-    )
-pair_max x y z w (inr p) (inr q) =
-    inr (
-      ap (λ u. int_max u z) p.0 ∙ ap (int_max least) q.0 ∙ max_same least,
-      ap (λ u. int_max u w) p.1
-          ∙ ap (int_max least) q.1 ∙ max_same least,
-    )
 
 -- places
 

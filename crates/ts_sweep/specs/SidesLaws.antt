@@ -1,6 +1,6 @@
 -- The laws of lanes of one end.
 -- Lemmas, no definitions: they are here since ghost members of impls cite them.
-use Rattle.std.proofs.Common.{◌≡◌, ◌⊎◌, inl, inr, ℕ, zero, suc, ◌+◌, ◌*◌, ◌<◌, ◌≤◌, ◌≤ℤ◌, ◌<ℤ◌, ℤ, pos, negsuc, Bool, true, false, cond, not, nat_eq, int_le, Option, None, Some, List, [], ◌∷◌, length, get_or, set, replicate, refl, sym, ap, subst, ◌∙◌, arith}
+use Rattle.std.proofs.Common.{◌≡◌, ◌⊎◌, inl, inr, ℕ, zero, suc, ◌+◌, ◌*◌, ◌<◌, ◌≤◌, ◌≤ℤ◌, ◌<ℤ◌, ℤ, pos, negsuc, Bool, true, false, cond, not, nat_eq, Option, None, Some, List, [], ◌∷◌, length, get_or, set, replicate, refl, sym, ap, subst, ◌∙◌, arith}
 use Rattle.std.specs.Int.{int_max}
 use Rattle.std.proofs.lemmas.Int.{ints}
 use Rattle.std.proofs.lemmas.Bool.{eqb-true}
@@ -22,7 +22,7 @@ use Rattle.ts_sweep.specs.FrontLaws.{if_above, if_below, never_added}
 use Rattle.ts_sweep.specs.Packed.{ends, ends_at, ends_in, ends_span, is_wide, name_ends, negated, place, register_span, span_of, unpacked, upper, with_ends_in, IsPacked, IsPackOf}
 use Rattle.ts_sweep.specs.PackedLaws.{same_ends, some_lanes_are, packed_length, placed_by}
 use Rattle.ts_sweep.specs.UpperLaws.{upper_low}
-use Rattle.ts_sweep.specs.Sides.{Sides, BothEnds, UpperEnds, LowerEnds, sides, filled, upper_lanes, lower_lanes, lanes_by, lanes_in, count_by, has_wide, lane_count, every_other, as_read, read_ends, kept_ends, with_one, with_kept, seen, seen_hull, IsLower, IsUpper, IsEndsOf}
+use Rattle.ts_sweep.specs.Sides.{Sides, BothEnds, UpperEnds, LowerEnds, sides, filled, upper_lanes, lower_lanes, lanes_by, lanes_in, count_by, has_wide, lane_count, every_other, as_read, read_ends, kept_ends, with_kept, seen, seen_hull, IsLower, IsUpper, IsEndsOf}
 
 -- the end beside the greater of two
 
@@ -51,9 +51,6 @@ joined_by UpperEnds xs ys = upper_both xs ys
 joined_by LowerEnds xs ys = lower_both xs ys
 
 -- nothing in lanes of one end is nothing in all
-
-filled_least : filled least ≡ least
-filled_least = refl
 
 two_least : (n : ℕ) → (least ∷ least ∷ no_lanes (n + n)) ≡ no_lanes (suc n + suc n)
 two_least n = let e : suc (suc (n + n)) ≡ suc n + suc n = omega arith in ap (λ k. replicate k least) e
