@@ -17,7 +17,7 @@ use Rattle.ts_automaton.specs.Formula.{Formula, Leaf, Join}
 use Rattle.ts_automaton.specs.Registers.{EachOf, Takes, Values, value_in}
 use Rattle.ts_glue.specs.declared.operand.Part.{Part}
 use Rattle.ts_glue.specs.declared.operand.Part.TheVariants.{Whole, Away}
-use Rattle.ts_glue.specs.Glue.{Glue, Left, Right, Number, With, GlueTakes, apart, counted_once, fold_of, fold_op, folded_between, folded_both, glue_in, glue_of, held_in, is_join, is_wide, join_of, open_in, opened, part_of, result_of, result_op, then_opened, worth}
+use Rattle.ts_glue.specs.Glue.{Glue, Left, Right, Number, With, GlueTakes, apart, counted_once, fold_of, fold_op, folded_between, folded_both, glue_in, glue_of, held_in, held_of, is_join, is_wide, join_of, open_in, opened, part_of, result_of, result_op, then_opened, worth}
 use Rattle.ts_glue.specs.declared.shape.Seam.{Seam}
 use Rattle.ts_glue.specs.declared.shape.Shape.{Shape}
 use Rattle.ts_glue.specs.declared.shape.Shape.TheVariants.{Apart as NoJoin, Through}
@@ -37,7 +37,7 @@ use Rattle.ts_sweep.specs.PackedLaws.{same_ends}
 use Rattle.ts_meet.specs.declared.gluing.Gluing.{Gluing}
 use Rattle.ts_meet.specs.Joints.{IsFoldPlain, IsHeldPlain, IsOpenPlain, IsPlain, expression, folds_held, held_ends, is_add, joined_expression, once, open_ends, part_by}
 use Rattle.ts_meet.specs.SideLaws.{cell_within, far_infinity, near_small}
-use Rattle.ts_meet.specs.Sides.{AreSomeEnds, ArePackOf, IsNeutral, TakesAny, TakesNear, TakesPlain, is_far, plain_by, plain_values}
+use Rattle.ts_meet.specs.Sides.{AreSomeEnds, ArePackOf, IsInfinity, IsNeutral, TakesAny, TakesNear, TakesPlain, is_far, plain_by, plain_values}
 
 -- registers alone stand in it
 abbrev OfRegisters : Formula → Type 0
@@ -514,84 +514,85 @@ module _ (a b : EachOf Ends) where
         )
     with_results o u results few takes false e = ((tt, tt, free_taken (Fold o) a.r b.r e), takes, free_taken (Fold o) _ _ e)
 
-    joined_narrow : (g : Gluing) → IsCellValue g.worth → IsPlain g a b → g.joins ≡ true → g.wide ≡ false →
-        GlueTakes TakesPlain plain_values a b (join_of g.result (folded g.fold Whole g.worth g.trims g.held_left g.held_right))
-    joined_narrow g h plain j w =
-        with_results g.result (folded g.fold Whole g.worth g.trims g.held_left g.held_right) plain.results
-        (λ e. (fold_within Whole g.fold g h (plain.folded w (left_or (is_add g.result) (is_add g.fold) e) j)).0)
-        (folds_taken g h (λ z. plain.folded w (right_or (is_add g.result) (is_add g.fold) z) j) (is_add g.fold) refl) (is_add g.result) refl
-
-    -- the greatest of cells less the least
-    joined_wide : (g : Gluing) → IsCellValue g.worth → IsPlain g a b → g.joins ≡ true → g.wide ≡ true →
-        GlueTakes TakesPlain plain_values a b (join_of g.result (fold_of true g.fold (part_by g)))
-    joined_wide g h plain j w =
-        let s = plain.spread w j in
-        let u = extreme_within Whole g.fold g h s.0 s.1 in let v = extreme_within Away Min g h refl s.2 in
-        with_results g.result (fold_of true g.fold (part_by g)) plain.results
-        (λ e. are_within 2 _ (omega arith) (both_within Sub 1 1 _ _ (omega arith) u.0 v.0))
-        (u.1, v.1, both_taken Sub 1 1 _ _ (omega arith) (omega arith) u.0 v.0) (is_add g.result) refl
-
-    apart_narrow : (g : Gluing) → IsPlain g a b → g.joins ≡ false → g.wide ≡ false → (v : Bool) → is_add g.result ≡ v →
-        GlueTakes TakesPlain plain_values a b (apart false g.result)
-    apart_narrow g plain j w true e =
-        let rs = plain.results e in let cs = plain.apart w e j in let o = Fold g.result in
-        let ar = small a.r some_a.4 rs.0 in let ac = small a.c some_a.0 cs.0 in
-        let br = small b.r some_b.4 rs.1 in let bc = small b.c some_b.0 cs.1 in (
-          (tt, tt, both_taken o 1 1 a.r a.c (omega arith) (omega arith) ar ac),
-          (tt, tt, both_taken o 1 1 b.r b.c (omega arith) (omega arith) br bc),
-          both_taken o 2 2 (plain_by o a.r a.c) (plain_by o b.r b.c) (omega arith) (omega arith) (both_within o 1 1 a.r a.c (omega arith) ar ac)
-              (both_within o 1 1 b.r b.c (omega arith) br bc),
-        )
-    apart_narrow g plain j w false e = (
-      (tt, tt, free_taken (Fold g.result) _ _ e),
-      (tt, tt, free_taken (Fold g.result) _ _ e),
-      free_taken (Fold g.result) _ _ e,
+    -- what is folded: of wide automata the greatest of cells less the least
+    fold_taken : (g : Gluing) → IsCellValue g.worth → IsPlain g a b → g.joins ≡ true → (wide : Bool) → g.wide ≡ wide →
+        GlueTakes TakesPlain plain_values a b (fold_of wide g.fold (part_by g))
+        × (is_add g.result ≡ true → AreWithin 5 (glue_in plain_values a b (fold_of wide g.fold (part_by g))))
+    fold_taken g h plain j false w = (
+      folds_taken g h (λ z. plain.folded j (right_or g.wide _ (right_or (is_add g.result) (is_add g.fold) z))) (is_add g.fold) refl,
+      λ e. (fold_within Whole g.fold g h (plain.folded j (right_or g.wide _ (left_or (is_add g.result) (is_add g.fold) e)))).0,
     )
+    fold_taken g h plain j true w =
+        let s = plain.away j w in
+        let u = extreme_within Whole g.fold g h s.0 (plain.folded j (left_or g.wide (is_add g.result || is_add g.fold) w)) in
+        let v = extreme_within Away Min g h refl s.1 in (
+          (u.1, v.1, both_taken Sub 1 1 _ _ (omega arith) (omega arith) u.0 v.0),
+          λ e. are_within 2 _ (omega arith) (both_within Sub 1 1 _ _ (omega arith) u.0 v.0),
+        )
 
-    -- what is held, the greatest less the least
-    abbrev spread : EachOf Ends → Ends
-    spread s = plain_by Sub s.c s.e
+    joined_taken : (g : Gluing) → IsCellValue g.worth → IsPlain g a b → g.joins ≡ true → (wide : Bool) → g.wide ≡ wide →
+        GlueTakes TakesPlain plain_values a b (join_of g.result (fold_of wide g.fold (part_by g)))
+    joined_taken g h plain j wide w =
+        let taken = fold_taken g h plain j wide w in
+        with_results g.result (fold_of wide g.fold (part_by g)) plain.results taken.1 taken.0 (is_add g.result) refl
 
-    spread_taken : (sum : Bool) (s : EachOf Ends) → AreSomeEnds s → IsHeldPlain sum s →
-        TakesPlain Sub s.c s.e × (sum ≡ true → AreWithin 2 (spread s))
-    spread_taken sum s some (e, inl c) =
+    -- what is held: of wide automata C less E
+    abbrev held_value : Bool → EachOf Ends → Ends
+    held_value wide s = value_in plain_values s (pos 0) (pos 0) (held_of wide)
+
+    in_two : (x : ℤ) → IsWithin 1 x → IsWithin 2 x
+    in_two x h = let a = h.0 in let b = h.1 in (omega (arith, ints, a, b), omega (arith, ints, a, b))
+
+    c_within : (s : EachOf Ends) → AreSomeEnds s → (ArePlain s.c ⊎ ((true ≡ false) × IsInfinity s.c)) → AreWithin 2 s.c
+    c_within s some (inl c) = let p = small s.c some.0 c in (in_two s.c.below p.0, in_two s.c.above p.1)
+    c_within s some (inr free) = never_added free.0
+
+    less_taken : (sum : Bool) (s : EachOf Ends) → AreSomeEnds s → ArePlain s.e → (ArePlain s.c ⊎ ((sum ≡ false) × IsInfinity s.c)) →
+        TakesPlain Sub s.c s.e × (sum ≡ true → AreWithin 2 (plain_by Sub s.c s.e))
+    less_taken sum s some e (inl c) =
         let x = small s.c some.0 c in let y = small s.e some.1 e in
         (both_taken Sub 1 1 s.c s.e (omega arith) (omega arith) x y, λ h. both_within Sub 1 1 s.c s.e (omega arith) x y)
-    spread_taken sum s some (e, inr free) = (
+    less_taken sum s some e (inr free) = (
       (λ h. never_added (sym (far_infinity s.c free.1) ∙ h), λ h. free.1, are_within 1 s.e (omega arith) (small s.e some.1 e)),
       λ h. never_added (sym h ∙ free.0),
     )
 
-    apart_wide : (g : Gluing) → IsPlain g a b → g.joins ≡ false → g.wide ≡ true → (v : Bool) → is_add g.result ≡ v →
-        GlueTakes TakesPlain plain_values a b (apart true g.result)
-    apart_wide g plain j w v e =
-        let h = plain.held w j in
-        by_sum v e (spread_taken (is_add g.result) a some_a h.0) (spread_taken (is_add g.result) b some_b h.1)
+    abbrev IsKept : Bool → Bool → EachOf Ends → Type 0
+    IsKept wide sum s = Takes TakesPlain plain_values s (pos 0) (pos 0) (held_of wide) × (sum ≡ true → AreWithin 2 (held_value wide s))
+
+    kept_taken : (wide sum : Bool) (s : EachOf Ends) → AreSomeEnds s → IsHeldPlain wide sum s → IsKept wide sum s
+    kept_taken false true s some h = (tt, λ e. c_within s some (h.1 refl))
+    kept_taken false false s some h = (tt, λ e. never_added (sym e))
+    kept_taken true sum s some h = let taken = less_taken sum s some (h.0 refl) (h.1 refl) in ((tt, tt, taken.0), taken.1)
+
+    apart_taken : (g : Gluing) → IsPlain g a b → g.joins ≡ false → (v : Bool) → is_add g.result ≡ v →
+        GlueTakes TakesPlain plain_values a b (apart g.wide g.result)
+    apart_taken g plain j v e =
+        let h = plain.held j in
+        by_sum v e (kept_taken g.wide (is_add g.result) a some_a h.0) (kept_taken g.wide (is_add g.result) b some_b h.1)
       where
         o : Operator
         o = Fold g.result
 
-        by_sum : (v : Bool) → is_add g.result ≡ v → TakesPlain Sub a.c a.e × (is_add g.result ≡ true → AreWithin 2 (spread a)) →
-            TakesPlain Sub b.c b.e × (is_add g.result ≡ true → AreWithin 2 (spread b)) → GlueTakes TakesPlain plain_values a b (apart true g.result)
+        by_sum : (v : Bool) → is_add g.result ≡ v → IsKept g.wide (is_add g.result) a → IsKept g.wide (is_add g.result) b →
+            GlueTakes TakesPlain plain_values a b (apart g.wide g.result)
         by_sum true e p q =
-            let rs = plain.results e in let ar = small a.r some_a.4 rs.0 in let br = small b.r some_b.4 rs.1 in (
-              (tt, (tt, tt, p.0), both_taken o 1 2 a.r (spread a) (omega arith) (omega arith) ar (p.1 e)),
-              (tt, (tt, tt, q.0), both_taken o 1 2 b.r (spread b) (omega arith) (omega arith) br (q.1 e)),
-              both_taken o 3 3 (plain_by o a.r (spread a)) (plain_by o b.r (spread b)) (omega arith) (omega arith)
-                  (both_within o 1 2 a.r (spread a) (omega arith) ar (p.1 e)) (both_within o 1 2 b.r (spread b) (omega arith) br (q.1 e)),
+            let rs = plain.results e in let ar = small a.r some_a.4 rs.0 in let br = small b.r some_b.4 rs.1 in
+            let x = held_value g.wide a in let y = held_value g.wide b in (
+              (tt, p.0, both_taken o 1 2 a.r x (omega arith) (omega arith) ar (p.1 e)),
+              (tt, q.0, both_taken o 1 2 b.r y (omega arith) (omega arith) br (q.1 e)),
+              both_taken o 3 3 (plain_by o a.r x) (plain_by o b.r y) (omega arith) (omega arith)
+                  (both_within o 1 2 a.r x (omega arith) ar (p.1 e)) (both_within o 1 2 b.r y (omega arith) br (q.1 e)),
             )
-        by_sum false e p q =
-            ((tt, (tt, tt, p.0), free_taken o _ _ e), (tt, (tt, tt, q.0), free_taken o _ _ e), free_taken o _ _ e)
+        by_sum false e p q = ((tt, p.0, free_taken o _ _ e), (tt, q.0, free_taken o _ _ e), free_taken o _ _ e)
 
-    plain_by_shape : (g : Gluing) → IsCellValue g.worth → IsPlain g a b → (wide joins : Bool) → g.wide ≡ wide → g.joins ≡ joins →
-        GlueTakes TakesPlain plain_values a b (cond joins (join_of g.result (fold_of wide g.fold (part_by g))) (apart wide g.result))
-    plain_by_shape g h plain false true w j = joined_narrow g h plain j w
-    plain_by_shape g h plain false false w j = apart_narrow g plain j w (is_add g.result) refl
-    plain_by_shape g h plain true true w j = joined_wide g h plain j w
-    plain_by_shape g h plain true false w j = apart_wide g plain j w (is_add g.result) refl
+    plain_by_shape : (g : Gluing) → IsCellValue g.worth → IsPlain g a b → (joins : Bool) → g.joins ≡ joins →
+        GlueTakes TakesPlain plain_values a b (cond joins (join_of g.result (fold_of g.wide g.fold (part_by g))) (apart g.wide g.result))
+    plain_by_shape g h plain true j = joined_taken g h plain j g.wide refl
+    plain_by_shape g h plain false j = apart_taken g plain j (is_add g.result) refl
 
     pub plain_takes : (g : Gluing) → IsCellValue g.worth → IsPlain g a b → GlueTakes TakesPlain plain_values a b (expression g)
-    plain_takes g h plain = plain_by_shape g h plain g.wide g.joins refl refl
+    plain_takes g h plain = plain_by_shape g h plain g.joins refl
 
     abbrev by_joins : (g : Gluing) → Bool → Type 0
     by_joins g j = GlueTakes TakesPlain plain_values a b (cond j (joined_expression g) (apart g.wide g.result))
@@ -624,9 +625,10 @@ module _ (a b : EachOf Ends) where
 
     near_by : (g : Gluing) → IsCellValue g.worth → IsPlain g a b → g.joins ≡ true → (wide : Bool) → g.wide ≡ wide →
         GlueTakes TakesNear plain_values a b (join_of g.result (fold_of wide g.fold (part_by g)))
-    near_by g h plain j false w = let t = joined_narrow g h plain j w in ((tt, tt, (t.0.2, tt)), near_part Whole g.fold g t.1, (t.2, tt))
+    near_by g h plain j false w = let t = joined_taken g h plain j false w in ((tt, tt, (t.0.2, tt)), near_part Whole g.fold g t.1, (t.2, tt))
     near_by g h plain j true w =
-        let s = plain.spread w j in let t = joined_wide g h plain j w in let u = extreme_within Whole g.fold g h s.0 s.1 in (
+        let s = plain.away j w in let t = joined_taken g h plain j true w in
+        let u = extreme_within Whole g.fold g h s.0 (plain.folded j (left_or g.wide (is_add g.result || is_add g.fold) w)) in (
           (tt, tt, (t.0.2, tt)),
           (near_part Whole g.fold g t.1.0, near_part Away Min g t.1.1, (t.1.2, near_small _ (are_within 1 _ (omega arith) u.0))),
           (t.2, tt),
@@ -637,8 +639,13 @@ module _ (a b : EachOf Ends) where
     near_joined g h plain j = near_by g h plain j g.wide refl
 
 -- nothing is taken away from an infinity where C is held
-pub held_near : (s : EachOf Ends) → AreSomeEnds s → ArePlain s.c → is_far s.c ≡ false
+held_near : (s : EachOf Ends) → AreSomeEnds s → ArePlain s.c → is_far s.c ≡ false
 held_near s some plain = near_small s.c (are_within 1 s.c (omega arith) (small s.c some.0 plain))
+
+pub near_held : (wide : Bool) (o : Op) (s : EachOf Ends) → AreSomeEnds s → (wide ≡ true → ArePlain s.c) →
+    Takes TakesPlain plain_values s (pos 0) (pos 0) (result_of wide o) → Takes TakesNear plain_values s (pos 0) (pos 0) (held_of wide)
+near_held false o s some plain h = tt
+near_held true o s some plain h = (tt, tt, (h.1.2, held_near s some (plain refl)))
 
 -- where it isn't, the answer is R
 
@@ -660,9 +667,10 @@ neutral_far Add c n = absurd n
 neutral_far Max c n = far_infinity c (inl n)
 neutral_far Min c n = far_infinity c (inr n)
 
-pub unheld_answer : (o : Op) (s : EachOf Ends) → SFits w64 s.r.below → SFits w64 s.r.above → IsSomeEnds s.r → IsNeutral o s.c →
-    s.r ≡ value_in plain_values s (pos 0) (pos 0) (result_of true o)
-unheld_answer o s f g some n =
+pub unheld_answer : (wide : Bool) (o : Op) (s : EachOf Ends) → SFits w64 s.r.below → SFits w64 s.r.above → IsSomeEnds s.r → IsNeutral o s.c →
+    s.r ≡ value_in plain_values s (pos 0) (pos 0) (result_of wide o)
+unheld_answer false o s f g some n = sym (neutral_kept o s.r s.c f g some n)
+unheld_answer true o s f g some n =
     sym
     (ap (λ b. plain_by (Fold o) s.r (cond b s.c (sum_of_ends s.c (crossed s.e)))) (neutral_far o s.c n)
     ∙ neutral_kept o s.r s.c f g some n)

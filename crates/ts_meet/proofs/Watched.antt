@@ -3,6 +3,7 @@ use mir.Val.{SFits, of_z, to_z}
 use Rattle.std.proofs.Common.{w64, ◌≡◌, ◌⊎◌, ◌+◌, ◌<◌, ◌≤ℤ◌, ℕ, ℤ, Bool, true, false, ◌||◌, List, get_or, inl, inr, refl, sym, ap, subst, ◌∙◌, ⊎_elim, arith}
 use Rattle.std.proofs.lemmas.Int.{ints, to_z-of_z}
 use Rattle.std.specs.Int.{int_max}
+use Rattle.std.specs.Prelude.{Option, Some, IfSome}
 use Rattle.ts_base.specs.declared.op.Op.{Op}
 use Rattle.ts_base.specs.declared.op.Op.TheVariants.{Add, Max, Min}
 use Rattle.ts_automaton.specs.Registers.{EachOf}
@@ -16,12 +17,11 @@ use Rattle.ts_sweep.specs.Sides.{lane_count, sides}
 use Rattle.ts_meet.specs.declared.gluing.Gluing.{Gluing}
 use Rattle.ts_meet.specs.declared.peaks.Peaks.{Peaks}
 use Rattle.ts_meet.specs.declared.column.Watched.{Watched}
-use Rattle.ts_meet.specs.declared.column.Watched.TheVariants.{Wide}
 use Rattle.ts_glue.specs.declared.operand.Part.TheVariants.{Whole, Away}
-use Rattle.ts_meet.specs.Joints.{IsFoldPlain, IsHeldPlain, IsOpenPlain, IsPlain, folds_held, is_add}
-use Rattle.ts_meet.specs.Peaks.{AreBelow, AreRestSmall, AreTaken, AreWatched, HoldsInHull, HoldsInHulls, IsBelow, IsHeldBy, IsKnown, IsSmall, IsUnder, sides_of_peaks}
+use Rattle.ts_meet.specs.Joints.{IsFoldPlain, IsHeldPlain, IsOpenPlain, IsPlain, adds_any, folds_held, is_add}
+use Rattle.ts_meet.specs.Peaks.{AreBelow, ArePlainHeld, AreRestSmall, AreTaken, AreWatched, HoldsInHull, HoldsInHulls, IsAnswerHeld, IsBelow, IsHeldBy, IsKnown, IsSmall, IsUnder, sides_of_peaks}
 use Rattle.ts_meet.specs.Settled.{ArePlaces}
-use Rattle.ts_meet.specs.Sides.{side_of}
+use Rattle.ts_meet.specs.Sides.{IsInfinity, IsNeutral, side_of}
 use Rattle.ts_meet.proofs.Asking.{read_there}
 
 -- the greatest of a number and two ends is above all three
@@ -83,69 +83,100 @@ open_below Add e top h p = let a = h.0 in let b = h.1 in let x = p.0 in let y = 
 open_below Max e top h p = let b = h.1 in omega (arith, ints, b, p)
 open_below Min e top h p = let a = h.0 in omega (arith, ints, a, p)
 
-pub plain_within : (g : Gluing) (k l : Peaks) (a b : EachOf Ends) → g.wide ≡ false → IsPlain g (sides_of_peaks k) (sides_of_peaks l) →
+right_or : (u v : Bool) → v ≡ true → (u || v) ≡ true
+right_or true v e = refl
+right_or false v e = e
+
+pub plain_within : (g : Gluing) (k l : Peaks) (a b : EachOf Ends) → g.joins ≡ true → g.wide ≡ false → IsPlain g (sides_of_peaks k) (sides_of_peaks l) →
     IsUnder k a → IsUnder l b → IsPlain g a b
-plain_within g k l a b narrow p u v = record {
+plain_within g k l a b joins narrow p u v = record {
   results = λ e. let rs = p.results e in (plain_below a.r k.r u.2 rs.0, plain_below b.r l.r v.2 rs.1);
-  apart = λ n e j. let cs = p.apart n e j in (plain_below a.c k.c u.0 cs.0, plain_below b.c l.c v.0 cs.1);
-  held = λ w j. never_added (sym w ∙ narrow);
-  folded = λ n e j. let f = p.folded n e j in record {
+  held = λ j. never_added (sym joins ∙ j);
+  folded = λ j e. let f = p.folded j e in record {
     left_open = open_below g.fold a.d k.d u.1 f.left_open;
     right_open = open_below g.fold b.d l.d v.1 f.right_open;
     left_held = λ h. plain_below a.c k.c u.0 (f.left_held h);
     right_held = λ h. plain_below b.c l.c v.0 (f.right_held h);
   };
-  spread = λ w j. never_added (sym w ∙ narrow);
+  away = λ j w. never_added (sym w ∙ narrow);
 }
 
--- where nothing is added no number has to be small
-pub plain_free : (g : Gluing) (a b : EachOf Ends) → g.wide ≡ false → (is_add g.result || is_add g.fold) ≡ false → IsPlain g a b
-plain_free g a b narrow free = record {
-  results = λ e. never_added (sym (left_or (is_add g.result) (is_add g.fold) e) ∙ free);
-  apart = λ n e j. never_added (sym (left_or (is_add g.result) (is_add g.fold) e) ∙ free);
-  held = λ w j. never_added (sym w ∙ narrow);
-  folded = λ n e j. never_added (sym e ∙ free);
-  spread = λ w j. never_added (sym w ∙ narrow);
+or_more : (u v w : Bool) → (u || v) ≡ true → (u || (v || w)) ≡ true
+or_more true v w e = refl
+or_more false v w e = left_or v w e
+
+-- where nothing is added or taken away no number has to be small
+pub plain_free : (g : Gluing) (a b : EachOf Ends) → adds_any g ≡ false → IsPlain g a b
+plain_free g a b free = record {
+  results = λ e. never_added (sym (right_or g.wide _ (left_or (is_add g.result) (is_add g.fold) e)) ∙ free);
+  held = λ j. (kept a, kept b);
+  folded = λ j e. never_added (sym e ∙ free);
+  away = λ j w. never_added (sym (left_or g.wide (is_add g.result || is_add g.fold) w) ∙ free);
 }
+  where
+    kept : (s : EachOf Ends) → IsHeldPlain g.wide (is_add g.result) s
+    kept s = (
+      λ w. never_added (sym (left_or g.wide (is_add g.result || is_add g.fold) w) ∙ free),
+      λ e. never_added (sym (or_more g.wide (is_add g.result) (is_add g.fold) e) ∙ free),
+    )
 
--- what is held of wide registers that are small
-held_small : (o : Op) (held : Bool) (a : EachOf Ends) → ArePlain a.e → IsHeldBy o held a.c → IsHeldPlain (is_add o) a
-held_small o true a e c = (e, inl c)
-held_small Add false a e c = absurd c
-held_small Max false a e c = (e, inr (refl, inl c))
-held_small Min false a e c = (e, inr (refl, inr c))
-
-pub apart_plain : (g : Gluing) (here there : Bool) (a b : EachOf Ends) → g.wide ≡ true → g.joins ≡ false →
-    (is_add g.result ≡ true → ArePlain a.r × ArePlain b.r) → ArePlain a.e → ArePlain b.e → IsHeldBy g.result here a.c → IsHeldBy g.result there b.c →
-    IsPlain g a b
-apart_plain g here there a b wide none results e f c d = record {
+-- answers of both runs
+pub answers_plain : (g : Gluing) (a b : EachOf Ends) → g.joins ≡ false → (is_add g.result ≡ true → ArePlain a.r × ArePlain b.r) →
+    IsHeldPlain g.wide (is_add g.result) a → IsHeldPlain g.wide (is_add g.result) b → IsPlain g a b
+answers_plain g a b none results p q = record {
   results = results;
-  apart = λ n h j. never_added (sym wide ∙ n);
-  held = λ w j. (held_small g.result here a e c, held_small g.result there b f d);
-  folded = λ n h j. never_added (sym wide ∙ n);
-  spread = λ w j. never_added (sym j ∙ none);
+  held = λ j. (p, q);
+  folded = λ j e. never_added (sym j ∙ none);
+  away = λ j w. never_added (sym j ∙ none);
 }
 
-pub small_apart : (g : Gluing) (here there : Bool) (a b : EachOf Ends) → g.wide ≡ true → g.joins ≡ false →
-    IsSmall g.result here a → IsSmall g.result there b → IsPlain g a b
-small_apart g here there a b wide none s t = apart_plain g here there a b wide none (λ e. (s.2 e, t.2 e)) s.0.0 t.0.0 s.1 t.1
+-- where C isn't held it is infinite, which is as good where results aren't added
+infinite : (o : Op) (c : Ends) → IsNeutral o c → ArePlain c ⊎ ((is_add o ≡ false) × IsInfinity c)
+infinite Add c n = absurd n
+infinite Max c n = inr (refl, inl n)
+infinite Min c n = inr (refl, inr n)
+
+pub held_side : (wide : Bool) (o : Op) (held : Bool) (a : EachOf Ends) → ArePlain a.e → IsHeldBy true o held a.c →
+    IsHeldPlain wide (is_add o) a × IsHeldBy wide o held a.c
+held_side wide o true a e c = ((λ w. e, λ w. inl (c refl)), λ w. c refl)
+held_side wide o false a e c = ((λ w. e, λ w. infinite o a.c c), c)
+
+-- under peaks that are small where results are added C of narrow automata is as if held
+pub under_held : (wide : Bool) (o : Op) (k : Peaks) (a : EachOf Ends) → wide ≡ false → IsUnder k a → (is_add o ≡ true → ArePlain (ends k.r k.r)) →
+    (is_add o ≡ true → ArePlain (ends k.c k.c)) → IsAnswerHeld wide o true a
+under_held wide o k a narrow u r c = (
+  λ h. plain_below a.r k.r u.2 (r h),
+  (λ w. never_added (sym w ∙ narrow), λ h. inl (plain_below a.c k.c u.0 (c (subst (λ w. (w || is_add o) ≡ true) narrow h)))),
+  λ w. never_added (sym w ∙ narrow),
+)
+
+-- small ones of wide automata are held as it is told
+pub small_held : (o : Op) (held : Bool) (a : EachOf Ends) → IsSmall o held a → IsAnswerHeld true o held a
+small_held o held a s = let p = held_side true o held a s.0.0 s.1 in (s.2, p.0, p.1)
+
+-- so it is where nothing is added or taken away
+pub free_held : (wide : Bool) (o : Op) (a : EachOf Ends) → (wide || is_add o) ≡ false → IsAnswerHeld wide o true a
+free_held wide o a free = (
+  λ e. never_added (sym (right_or wide (is_add o) e) ∙ free),
+  (λ w. never_added (sym (left_or wide (is_add o) w) ∙ free), λ e. never_added (sym e ∙ free)),
+  λ w. never_added (sym (left_or wide (is_add o) w) ∙ free),
+)
 
 open_greatest : (o : Op) (e : Ends) → o ≡ Max → IsOpenPlain Max e → IsOpenPlain o e
 open_greatest o e is h = subst (λ z. IsOpenPlain z e) (sym is) h
 
 -- C is small where it is held
-held_plain : (o : Op) (held : Bool) (c : Ends) → held ≡ true → IsHeldBy o held c → ArePlain c
-held_plain o held c is h = subst (λ z. IsHeldBy o z c) is h
+held_plain : (o : Op) (held : Bool) (c : Ends) → held ≡ true → IsHeldBy true o held c → ArePlain c
+held_plain o held c is h = (subst (λ z. IsHeldBy true o z c) is h) refl
 
-pub small_joined : (g : Gluing) (here there : Bool) (a b : EachOf Ends) → g.wide ≡ true → g.joins ≡ true → g.fold ≡ Max →
+pub small_joined : (g : Gluing) (here there : Bool) (a b : EachOf Ends) → g.joins ≡ true → g.fold ≡ Max →
     (folds_held g.trims g.held_left ≡ true → here ≡ true) → (folds_held g.trims g.held_right ≡ true → there ≡ true) →
     IsSmall g.result here a → IsSmall g.result there b → IsPlain g a b
-small_joined g here there a b wide joins greatest left right s t = record {
+small_joined g here there a b joins greatest left right s t = record {
   results = λ e. (s.2 e, t.2 e);
-  apart = λ n e j. never_added (sym wide ∙ n);
-  held = λ w j. never_added (sym joins ∙ j);
-  folded = λ n e j. never_added (sym wide ∙ n);
-  spread = λ w j. (ap is_add greatest, whole s.0 t.0, away s.0 t.0);
+  held = λ j. never_added (sym joins ∙ j);
+  folded = λ j e. whole s.0 t.0;
+  away = λ j w. (ap is_add greatest, away s.0 t.0);
 }
   where
     whole : AreRestSmall a → AreRestSmall b → IsFoldPlain Whole g.fold g a b
@@ -168,14 +199,30 @@ all_taken n o g k l left right from count is plain first second i before here th
     let b = side_of (sides n) (lanes_of n (get_or right (from + i) (nothing n))) in
     plain a b (subst (λ z. IsKnown z k a) (sym is) (first i before here)) (subst (λ z. IsKnown z l b) (sym is) (second i before there))
 
--- so are small ones of which it is known whether C is held
-pub small_taken : (n : ℕ) (o : Op) (here there : Bool) (k l : Watched) (left right : List (PackedHull n)) (from count : ℕ) →
-    k ≡ Wide here → l ≡ Wide there → AreWatched n o k left from count → AreWatched n o l right from count →
-    AreTaken n (λ a b. IsSmall o here a × IsSmall o there b) left right from count
-small_taken n o here there k l left right from count first_is second_is first second i before u v = (
-  subst (λ w. IsKnown o w (side_of (sides n) (lanes_of n (get_or left (from + i) (nothing n))))) first_is (first i before u),
-  subst (λ w. IsKnown o w (side_of (sides n) (lanes_of n (get_or right (from + i) (nothing n))))) second_is (second i before v),
-)
+-- so where it is told on both sides whether C is held
+
+told_by : (r : Option Bool) (held : Bool) (Holds : Bool → Type 0) → r ≡ Some held → IfSome r Holds → Holds held
+told_by r held Holds is h = subst (λ z. IfSome z Holds) is h
+
+pub held_taken : (n : ℕ) (o : Op) (here there : Bool) (g : Gluing) (k l : Watched) (r s : Option Bool) (left right : List (PackedHull n)) (from count : ℕ) →
+    g.joins ≡ false → g.result ≡ o → r ≡ Some here → s ≡ Some there →
+    ((a : EachOf Ends) → IfSome r (λ held. IsKnown g.result k a → IsAnswerHeld g.wide g.result held a)) →
+    ((b : EachOf Ends) → IfSome s (λ held. IsKnown g.result l b → IsAnswerHeld g.wide g.result held b)) →
+    AreWatched n o k left from count → AreWatched n o l right from count → AreTaken n (ArePlainHeld here there g) left right from count
+held_taken n o here there g k l r s left right from count none is first_is second_is p q first second i before u v =
+    let a = side_of (sides n) (lanes_of n (get_or left (from + i) (nothing n))) in
+    let b = side_of (sides n) (lanes_of n (get_or right (from + i) (nothing n))) in
+    let x = told_by r here (λ held. IsKnown g.result k a → IsAnswerHeld g.wide g.result held a) first_is (p a)
+    (subst (λ z. IsKnown z k a) (sym is) (first i before u)) in
+    let y = told_by s there (λ held. IsKnown g.result l b → IsAnswerHeld g.wide g.result held b) second_is (q b)
+    (subst (λ z. IsKnown z l b) (sym is) (second i before v)) in
+    (answers_plain g a b none (λ e. (x.0 e, y.0 e)) x.1 y.1, x.2, y.2)
+
+pub told_taken : (n : ℕ) (here there h t : Bool) (g : Gluing) (left right : List (PackedHull n)) (from count : ℕ) → here ≡ h → there ≡ t →
+    AreTaken n (ArePlainHeld here there g) left right from count → AreTaken n (ArePlainHeld h t g) left right from count
+told_taken n here there h t g left right from count e f taken =
+    subst (λ z. AreTaken n (ArePlainHeld z t g) left right from count) e
+    (subst (λ z. AreTaken n (ArePlainHeld here z g) left right from count) f taken)
 
 below_or_same : (i k : ℕ) → i < k + 1 → (i < k) ⊎ (i ≡ k)
 below_or_same i k l = grind arith

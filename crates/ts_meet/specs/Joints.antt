@@ -4,9 +4,9 @@ use Rattle.ts_base.specs.declared.op.Op.{Op}
 use Rattle.ts_base.specs.declared.op.Op.TheVariants.{Add, Max, Min}
 use Rattle.ts_automaton.specs.declared.state.Mark.{Mark}
 use Rattle.ts_automaton.specs.declared.state.Mark.TheVariants.{Same, Zero as ZeroMark, Cells}
-use Rattle.ts_automaton.specs.declared.expr.Operator.TheVariants.{Fold, Sub}
+use Rattle.ts_automaton.specs.declared.expr.Operator.TheVariants.{Fold}
 use Rattle.ts_automaton.specs.Registers.{EachOf, Values, value_in}
-use Rattle.ts_glue.specs.Glue.{Glue, With, apart, fold_of, folded_between, folded_both, fold_op, glue_of, held_in, is_wide, join_of, open_in, result_op, worth}
+use Rattle.ts_glue.specs.Glue.{Glue, apart, fold_of, folded_between, folded_both, fold_op, glue_of, held_in, is_wide, join_of, open_in, result_op, worth}
 use Rattle.ts_glue.specs.declared.operand.Part.{Part}
 use Rattle.ts_glue.specs.declared.operand.Part.TheVariants.{Whole, Away}
 use Rattle.ts_glue.specs.Pairs.{Pair}
@@ -103,24 +103,23 @@ pub record IsFoldPlain (p : Part) (o : Op) (g : Gluing) (left right : EachOf End
   pub left_held : folds_held g.trims g.held_left ≡ true → ArePlain (held_ends p left)
   pub right_held : folds_held g.trims g.held_right ≡ true → ArePlain (held_ends p right)
 
--- nor of the greatest and the least of the cells of a wide occurrence that goes on
-abbrev pub IsSpreadPlain : Gluing → EachOf Ends → EachOf Ends → Type 0
-IsSpreadPlain g left right =
-    (is_add g.fold ≡ false) × IsFoldPlain Whole g.fold g left right × IsFoldPlain Away Min g left right
+-- nor of what is held of one, if something is added to it or taken away from it; where nothing is held it is infinite,
+-- which is as good if results aren't added
+abbrev pub IsHeldPlain : Bool → Bool → EachOf Ends → Type 0
+IsHeldPlain wide adds s =
+    (wide ≡ true → ArePlain s.e) × ((wide || adds) ≡ true → ArePlain s.c ⊎ ((adds ≡ false) × IsInfinity s.c))
 
--- nor of what is held of one; the greatest is infinite where nothing is held, which is as good if results aren't added
-abbrev pub IsHeldPlain : Bool → EachOf Ends → Type 0
-IsHeldPlain adds s = ArePlain s.e × (ArePlain s.c ⊎ ((adds ≡ false) × IsInfinity s.c))
+-- something is added to what is folded or taken away from it
+abbrev pub adds_any : Gluing → Bool
+adds_any g = g.wide || (is_add g.result || is_add g.fold)
 
--- nor of any number that is added or taken away
+-- no end of any number that is added or taken away is above 10^16
 pub record IsPlain (g : Gluing) (left right : EachOf Ends) : Type 0 where
   pub results : is_add g.result ≡ true → ArePlain left.r × ArePlain right.r
-  pub apart : g.wide ≡ false → is_add g.result ≡ true → g.joins ≡ false → ArePlain left.c × ArePlain right.c
-  pub held : g.wide ≡ true → g.joins ≡ false → IsHeldPlain (is_add g.result) left × IsHeldPlain (is_add g.result) right
-  pub folded :
-      g.wide ≡ false → (is_add g.result || is_add g.fold) ≡ true → g.joins ≡ true →
-      IsFoldPlain Whole g.fold g left right
-  pub spread : g.wide ≡ true → g.joins ≡ true → IsSpreadPlain g left right
+  pub held :
+      g.joins ≡ false → IsHeldPlain g.wide (is_add g.result) left × IsHeldPlain g.wide (is_add g.result) right
+  pub folded : g.joins ≡ true → adds_any g ≡ true → IsFoldPlain Whole g.fold g left right
+  pub away : g.joins ≡ true → g.wide ≡ true → (is_add g.fold ≡ false) × IsFoldPlain Away Min g left right
 
 -- what is kept of a pair
 pub record AreJoints (p : Pair) (j : Joints) : Type 0 where

@@ -10,10 +10,11 @@ use Rattle.ts_sweep.specs.Fronts.{ArePlain}
 use Rattle.ts_sweep.specs.Lanes.{some_lanes}
 use Rattle.ts_sweep.specs.Packed.{ends}
 use Rattle.ts_sweep.specs.Sides.{sides}
+use Rattle.ts_meet.specs.declared.gluing.Gluing.{Gluing}
 use Rattle.ts_meet.specs.declared.peaks.Peaks.{Peaks}
 use Rattle.ts_meet.specs.declared.column.Watched.{Watched}
 use Rattle.ts_meet.specs.declared.column.Watched.TheVariants.{Nothing, Narrow, Wide}
-use Rattle.ts_meet.specs.Joints.{IsOpenPlain, is_add}
+use Rattle.ts_meet.specs.Joints.{IsHeldPlain, IsOpenPlain, IsPlain, is_add}
 use Rattle.ts_meet.specs.Sides.{IsNeutral, side_of}
 
 -- what is known of a column that isn't there
@@ -39,14 +40,25 @@ IsUnder k a = IsBelow a.c k.c × AreBelow a.d k.d × IsBelow a.r k.r
 abbrev pub AreRestSmall : EachOf Ends → Type 0
 AreRestSmall a = ArePlain a.e × IsOpenPlain Max a.d × IsOpenPlain Min a.f
 
--- C is small where it is held, and otherwise the infinity that the operator on results passes over
-abbrev pub IsHeldBy : Op → Bool → Ends → Type 0
-IsHeldBy o true c = ArePlain c
-IsHeldBy o false c = IsNeutral o c
+-- where C is held it is small, if something is taken away from it as in wide automata; where it isn't, it is the
+-- infinity that the operator on results passes over
+abbrev pub IsHeldBy : Bool → Op → Bool → Ends → Type 0
+IsHeldBy wide o true c = wide ≡ true → ArePlain c
+IsHeldBy wide o false c = IsNeutral o c
+
+-- so it is held, and all numbers that are added or taken away in the answer of a run are small
+abbrev pub IsAnswerHeld : Bool → Op → Bool → EachOf Ends → Type 0
+IsAnswerHeld wide o held a =
+    (is_add o ≡ true → ArePlain a.r) × IsHeldPlain wide (is_add o) a × IsHeldBy wide o held a.c
+
+-- so it is on both sides, between which all numbers that are added or taken away are small
+abbrev pub ArePlainHeld : (here there : Bool) → Gluing → EachOf Ends → EachOf Ends → Type 0
+ArePlainHeld here there g a b =
+    IsPlain g a b × IsHeldBy g.wide g.result here a.c × IsHeldBy g.wide g.result there b.c
 
 -- wide registers are small, but for C where it isn't held, and for R where results aren't added
 abbrev pub IsSmall : Op → Bool → EachOf Ends → Type 0
-IsSmall o held a = AreRestSmall a × IsHeldBy o held a.c × (is_add o ≡ true → ArePlain a.r)
+IsSmall o held a = AreRestSmall a × IsHeldBy true o held a.c × (is_add o ≡ true → ArePlain a.r)
 
 -- this is known of registers whose results an operator joins
 abbrev pub IsKnown : Op → Watched → EachOf Ends → Type 0

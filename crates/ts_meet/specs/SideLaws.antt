@@ -132,9 +132,7 @@ fold_with_worth p o g d a b f = record {
 pub plain_with_worth : (g : Gluing) (d : ℤ) (a b : EachOf Ends) → IsPlain g a b → IsPlain (with_worth g d) a b
 plain_with_worth g d a b p = record {
   results = p.results;
-  apart = p.apart;
   held = p.held;
-  folded = λ w e j. fold_with_worth Whole g.fold g d a b (p.folded w e j);
-  spread = λ w j. let s = p.spread w j in
-      (s.0, fold_with_worth Whole g.fold g d a b s.1, fold_with_worth Away Min g d a b s.2);
+  folded = λ j w. fold_with_worth Whole g.fold g d a b (p.folded j w);
+  away = λ j w. let s = p.away j w in (s.0, fold_with_worth Away Min g d a b s.1);
 }

@@ -12,7 +12,7 @@ ghost use Rattle.ts_meet.specs.Along.{glued_along, hull_over, pair_along, with_a
 ghost use Rattle.ts_meet.specs.Asked.{IsAnswer, IsHullUntil};
 ghost use Rattle.ts_meet.specs.Joints.{AreJoints, IsGluing, expression, numbered, numbered_mark};
 ghost use Rattle.ts_meet.specs.Meets.{glued_seen};
-ghost use Rattle.ts_meet.specs.Peaks.{AreTaken, AreWatched, IsTaken, unwatched};
+ghost use Rattle.ts_meet.specs.Peaks.{ArePlainHeld, AreTaken, AreWatched, IsTaken, unwatched};
 ghost use Rattle.ts_meet.specs.Settled.{ArePlaces, HavePlaces, with_hull};
 ghost use Rattle.ts_meet.specs.Sides.{StandFor};
 ghost use Rattle.ts_row.specs.Rows.{lanes_of};
@@ -25,7 +25,7 @@ use crate::fold::{CELLS, GREATEST, LEAST, SAME, SUM, ZERO, numbered, numbered_ma
 use crate::gluing::Gluing;
 use crate::joints::{Joints, STATES};
 use crate::marked::{hull_of_both, joined, marked_by, nothing};
-use crate::seam::{Any, Apart, Joined, PlainApart, Seam, SmallApart, glued_by};
+use crate::seam::{Any, Apart, Joined, PlainApart, Seam, glued_by};
 use ts_automaton::{Mark, Op};
 use ts_base::Span;
 use ts_row::RowView;
@@ -224,15 +224,15 @@ fn along_apart<const O: u8, const N: usize>(
         (pair_along N p q r left.now right.now from values.now cells (length values.now)) }
 {
     if joints.wide {
-        along_wide::<O, N>(joints, first, second, left, right, values, from, cells)
+        along_width::<O, true, N>(joints, first, second, left, right, values, from, cells)
     } else {
-        along_narrow::<O, N>(joints, first, second, left, right, values, from, cells)
+        along_width::<O, false, N>(joints, first, second, left, right, values, from, cells)
     }
 }
 
-/// The hull where no occurrence of narrow automata goes on.
+/// The hull where no occurrence goes on. `WIDE` is whether the automata are wide.
 #[inline(always)]
-fn along_narrow<const O: u8, const N: usize>(
+fn along_width<const O: u8, const WIDE: bool, const N: usize>(
     joints: &Joints,
     first: Watched,
     second: Watched,
@@ -245,7 +245,7 @@ fn along_narrow<const O: u8, const N: usize>(
     requires registers { 6 ≤ lane_count N }
     requires alone { (sides N ≡ BothEnds) ⊎ (joints.now.wide ≡ false) }
     requires operator { numbered O ≡ joints.now.result }
-    requires narrow { joints.now.wide ≡ false }
+    requires width { joints.now.wide ≡ WIDE }
     requires left { ArePlaces N (from + length values.now) left.now }
     requires right { ArePlaces N (from + length values.now) right.now }
     requires first { AreWatched N (numbered O) first left.now from (length values.now) }
@@ -254,61 +254,59 @@ fn along_narrow<const O: u8, const N: usize>(
     ensures { (p : Pair) (q r : ℕ) → AreJoints p joints.now → is_join p.table q r ≡ false → StandFor result
         (pair_along N p q r left.now right.now from values.now cells (length values.now)) }
 {
-    let gluing = Gluing::apart(numbered(O), false);
-    if gluing.is_plain_within(first, second) {
-        let seam = PlainApart::<O>;
-        along_glued(seam, joints, gluing, left, right, values, from, cells)
-    } else {
-        let seam = Apart::<O, false>;
-        along_glued(seam, joints, gluing, left, right, values, from, cells)
-    }
-}
-
-/// The hull where no occurrence of wide automata goes on: if their registers are small, it is a constant of the loop
-/// whether C is held on each side.
-#[inline(always)]
-fn along_wide<const O: u8, const N: usize>(
-    joints: &Joints,
-    first: Watched,
-    second: Watched,
-    left: &[PackedHull<N>],
-    right: &[PackedHull<N>],
-    values: &[i64],
-    from: usize,
-    cells: u32,
-) -> Ends
-    requires registers { 6 ≤ lane_count N }
-    requires alone { (sides N ≡ BothEnds) ⊎ (joints.now.wide ≡ false) }
-    requires operator { numbered O ≡ joints.now.result }
-    requires wide { joints.now.wide ≡ true }
-    requires left { ArePlaces N (from + length values.now) left.now }
-    requires right { ArePlaces N (from + length values.now) right.now }
-    requires first { AreWatched N (numbered O) first left.now from (length values.now) }
-    requires second { AreWatched N (numbered O) second right.now from (length values.now) }
-    requires values { AreCellValues values.now }
-    ensures { (p : Pair) (q r : ℕ) → AreJoints p joints.now → is_join p.table q r ≡ false → StandFor result
-        (pair_along N p q r left.now right.now from values.now cells (length values.now)) }
-{
-    let gluing = Gluing::apart(numbered(O), true);
-    match (first, second) {
-        (Watched::Wide(true), Watched::Wide(true)) => {
-            let seam = SmallApart::<O, true, true>;
-            along_glued(seam, joints, gluing, left, right, values, from, cells)
-        }
-        (Watched::Wide(true), Watched::Wide(false)) => {
-            let seam = SmallApart::<O, true, false>;
-            along_glued(seam, joints, gluing, left, right, values, from, cells)
-        }
-        (Watched::Wide(false), Watched::Wide(true)) => {
-            let seam = SmallApart::<O, false, true>;
-            along_glued(seam, joints, gluing, left, right, values, from, cells)
-        }
-        (Watched::Wide(false), Watched::Wide(false)) => {
-            let seam = SmallApart::<O, false, false>;
-            along_glued(seam, joints, gluing, left, right, values, from, cells)
-        }
+    let gluing = Gluing::apart(numbered(O), WIDE);
+    let here = first.held(gluing.wide, gluing.result);
+    let there = second.held(gluing.wide, gluing.result);
+    match (here, there) {
+        (Some(here), Some(there)) => along_held::<O, WIDE, N>(
+            here, there, joints, gluing, left, right, values, from, cells,
+        ),
         _ => {
-            let seam = Apart::<O, true>;
+            let seam = Apart::<O, WIDE>;
+            along_glued(seam, joints, gluing, left, right, values, from, cells)
+        }
+    }
+}
+
+/// The hull where no occurrence goes on, all numbers that are added or taken away are small, and it is told on each
+/// side whether C is held: that is a constant of the loop.
+#[inline(always)]
+fn along_held<const O: u8, const WIDE: bool, const N: usize>(
+    here: bool,
+    there: bool,
+    joints: &Joints,
+    gluing: Gluing,
+    left: &[PackedHull<N>],
+    right: &[PackedHull<N>],
+    values: &[i64],
+    from: usize,
+    cells: u32,
+) -> Ends
+    requires apart { (gluing.joins ≡ false) × (gluing.result ≡ numbered O) × (gluing.wide ≡ WIDE) }
+    requires registers { 6 ≤ lane_count N }
+    requires alone { (sides N ≡ BothEnds) ⊎ (gluing.wide ≡ false) }
+    requires left { ArePlaces N (from + length values.now) left.now }
+    requires right { ArePlaces N (from + length values.now) right.now }
+    requires values { AreCellValues values.now }
+    requires held { AreTaken N (ArePlainHeld here there gluing) left.now right.now from (length values.now) }
+    ensures { (p : Pair) (q r : ℕ) → AreJoints p joints.now → IsGluing p q r gluing → StandFor result
+        (pair_along N p q r left.now right.now from values.now cells (length values.now)) }
+{
+    match (here, there) {
+        (true, true) => {
+            let seam = PlainApart::<O, WIDE, true, true>;
+            along_glued(seam, joints, gluing, left, right, values, from, cells)
+        }
+        (true, false) => {
+            let seam = PlainApart::<O, WIDE, true, false>;
+            along_glued(seam, joints, gluing, left, right, values, from, cells)
+        }
+        (false, true) => {
+            let seam = PlainApart::<O, WIDE, false, true>;
+            along_glued(seam, joints, gluing, left, right, values, from, cells)
+        }
+        (false, false) => {
+            let seam = PlainApart::<O, WIDE, false, false>;
             along_glued(seam, joints, gluing, left, right, values, from, cells)
         }
     }

@@ -1,15 +1,19 @@
 //! What is known of the ends of the registers in a column, found once for all values: peaks of narrow registers, or
 //! that wide ones are small, and whether C is held.
 
-ghost use Rattle.std.specs.Prelude.{◌<◌, ◌+◌, ◌≤◌, ℕ, [], get_or};
+ghost use Rattle.std.specs.Prelude.{◌<◌, ◌+◌, ◌≤◌, ℕ, [], IfSome, get_or};
+ghost use Rattle.ts_automaton.specs.Registers.{EachOf};
 ghost use Rattle.ts_meet.specs.Joints.{numbered};
-ghost use Rattle.ts_meet.specs.Peaks.{AreWatched, unwatched};
+ghost use Rattle.ts_meet.specs.Peaks.{AreWatched, IsAnswerHeld, IsKnown, unwatched};
 ghost use Rattle.ts_meet.specs.Settled.{ArePlaces, HavePlaces};
+ghost use Rattle.ts_sweep.specs.declared.packed.Ends.{Ends};
 ghost use Rattle.ts_sweep.specs.Sides.{lane_count};
 
+use crate::gluing::is_add;
 use crate::joints::{Joints, STATES};
 use crate::peaks::Peaks;
 use crate::small::are_small;
+use ts_automaton::Op;
 use ts_row::RowView;
 use ts_sweep::packed::PackedHull;
 
@@ -40,6 +44,26 @@ impl Watched {
             Watched::Narrow(Peaks::over::<O, N>(hulls, from, count))
         } else {
             Watched::Nothing
+        }
+    }
+
+    /// Whether C is held, if that is told and all numbers that are added or taken away in the answer of a run are
+    /// small.
+    #[inline(always)]
+    pub(crate) fn held(self, wide: bool, operator: Op) -> Option<bool>
+        ensures { (a : EachOf Ends) → IfSome result (λ held.
+            IsKnown operator self a → IsAnswerHeld wide operator held a) }
+    {
+        match self {
+            Watched::Narrow(peaks) => peaks.held(wide, operator),
+            Watched::Wide(held) => { if wide { Some(held) } else { None } }
+            Watched::Nothing => {
+                if wide | is_add(operator) {
+                    None
+                } else {
+                    Some(true)
+                }
+            }
         }
     }
 

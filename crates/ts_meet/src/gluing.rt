@@ -1,16 +1,18 @@
 //! What is made of the registers on both sides of a cell.
 
-ghost use Rattle.std.specs.Prelude.{◌≡◌, ◌⊎◌, ◌≤◌, true, false, pos};
+ghost use Rattle.std.specs.Prelude.{◌≡◌, ◌⊎◌, ◌≤◌, Bool, true, false, pos};
 ghost use Rattle.ts_automaton.specs.Registers.{EachOf, Takes, spans_of, value_in};
 ghost use Rattle.ts_base.specs.declared.ext.Ext.TheVariants.{Int};
-ghost use Rattle.ts_base.specs.declared.op.Op.TheVariants.{Max};
+ghost use Rattle.ts_base.specs.declared.op.Op.TheVariants.{Max, Min};
 ghost use Rattle.ts_base.specs.Limits.{IsCellValue};
+ghost use Rattle.ts_glue.specs.declared.operand.Part.TheVariants.{Whole, Away};
 ghost use Rattle.ts_glue.specs.Glue.{GlueTakes, apart, fold_of, folded_between, folded_both, glue_in, held_of, result_of};
 ghost use Rattle.ts_hull.specs.Sealed.{sealed_spans};
 ghost use Rattle.ts_meet.specs.Joints.{
   IsFoldPlain,
   IsHeldPlain,
   IsPlain,
+  adds_any,
   expression,
   folds_held,
   is_add,
@@ -19,9 +21,10 @@ ghost use Rattle.ts_meet.specs.Joints.{
   told_joined,
   with_worth,
 };
-ghost use Rattle.ts_meet.specs.Peaks.{IsHeldBy, IsKnown, IsSmall, IsUnder};
+ghost use Rattle.ts_meet.specs.Peaks.{ArePlainHeld, IsHeldBy, IsKnown, IsSmall, IsUnder};
 ghost use Rattle.ts_meet.specs.Sides.{
   AreSomeEnds,
+  IsInfinity,
   TakesPlain,
   ends_in,
   plain_values,
@@ -152,30 +155,8 @@ impl Gluing {
         }
     }
 
-    /// The glued ends of two hulls before the mark, where no occurrence goes on and all numbers that are added are
-    /// small.
-    #[inline(always)]
-    pub(crate) fn plain_apart<const N: usize>(
-        self,
-        left: &PackedHull<N>,
-        right: &PackedHull<N>,
-    ) -> Ends
-        requires registers { 6 ≤ lane_count N }
-        requires left { AreSome (lane_count N) (lanes_of N left.now) }
-        requires right { AreSome (lane_count N) (lanes_of N right.now) }
-        requires worth { IsCellValue self.worth }
-        requires apart { self.joins ≡ false }
-        requires plain { IsPlain self
-            (side_of (sides N) (lanes_of N left.now)) (side_of (sides N) (lanes_of N right.now)) }
-        ensures { IsPackOf result (glue_in sealed_spans
-            (pointed_spans (sides N) (spans_of (unpacked (lanes_of N left.now))))
-            (pointed_spans (sides N) (spans_of (unpacked (lanes_of N right.now)))) (apart self.wide self.result)) }
-    {
-        self.answers::<Plain>(Side::of(left), Side::of(right))
-    }
-
-    /// The glued ends of two hulls of wide automata before the mark, where no occurrence goes on, all registers are
-    /// small, and it is told on each side whether C is held.
+    /// The glued ends of two hulls before the mark, where no occurrence goes on, all numbers that are added or taken
+    /// away are small, and it is told on each side whether C is held.
     #[inline(always)]
     pub(crate) fn held_apart<const N: usize>(
         self,
@@ -189,9 +170,8 @@ impl Gluing {
         requires right { AreSome (lane_count N) (lanes_of N right.now) }
         requires worth { IsCellValue self.worth }
         requires apart { self.joins ≡ false }
-        requires wide { self.wide ≡ true }
-        requires small_left { IsSmall self.result here (side_of (sides N) (lanes_of N left.now)) }
-        requires small_right { IsSmall self.result there (side_of (sides N) (lanes_of N right.now)) }
+        requires held { ArePlainHeld here there self
+            (side_of (sides N) (lanes_of N left.now)) (side_of (sides N) (lanes_of N right.now)) }
         ensures { IsPackOf result (glue_in sealed_spans
             (pointed_spans (sides N) (spans_of (unpacked (lanes_of N left.now))))
             (pointed_spans (sides N) (spans_of (unpacked (lanes_of N right.now)))) (apart self.wide self.result)) }
@@ -199,15 +179,16 @@ impl Gluing {
         self.answers_held(here, there, Side::of(left), Side::of(right))
     }
 
-    /// The answers of both runs of wide automata joined, before the mark, where it is told whether C is held.
+    /// The answers of both runs joined, before the mark, where it is told whether C is held.
     #[inline(always)]
     fn answers_held(self, here: bool, there: bool, left: Side, right: Side) -> Ends
-        requires takes { GlueTakes TakesPlain plain_values (ends_in left) (ends_in right) (apart true self.result) }
+        requires takes { GlueTakes TakesPlain plain_values (ends_in left) (ends_in right)
+            (apart self.wide self.result) }
         requires some_left { AreSomeEnds (ends_in left) }
         requires some_right { AreSomeEnds (ends_in right) }
-        requires here { IsHeldBy self.result here left.c }
-        requires there { IsHeldBy self.result there right.c }
-        ensures { result ≡ glue_in plain_values (ends_in left) (ends_in right) (apart true self.result) }
+        requires here { IsHeldBy self.wide self.result here left.c }
+        requires there { IsHeldBy self.wide self.result there right.c }
+        ensures { result ≡ glue_in plain_values (ends_in left) (ends_in right) (apart self.wide self.result) }
     {
         Plain::joined(
             Operator::Fold(self.result),
@@ -216,18 +197,17 @@ impl Gluing {
         )
     }
 
-    /// The answer of a run of a wide automaton, before the mark, where it is told whether C is held: if it isn't, that
-    /// is R.
+    /// The answer of a run, before the mark, where it is told whether C is held: if it isn't, that is R.
     #[inline(always)]
     fn answer_held(self, held: bool, side: Side) -> Ends
-        requires takes { Takes TakesPlain plain_values (ends_in side) (pos 0) (pos 0) (result_of true self.result) }
+        requires takes { Takes TakesPlain plain_values (ends_in side) (pos 0) (pos 0)
+            (result_of self.wide self.result) }
         requires some { AreSomeEnds (ends_in side) }
-        requires held { IsHeldBy self.result held side.c }
-        ensures { result ≡ value_in plain_values (ends_in side) (pos 0) (pos 0) (result_of true self.result) }
+        requires held { IsHeldBy self.wide self.result held side.c }
+        ensures { result ≡ value_in plain_values (ends_in side) (pos 0) (pos 0) (result_of self.wide self.result) }
     {
         if held {
-            let spread = Near::joined(Operator::Sub, side.c, side.e);
-            Plain::joined(Operator::Fold(self.result), side.r, spread)
+            Plain::joined(Operator::Fold(self.result), side.r, self.held::<Near>(side))
         } else {
             side.r
         }
@@ -290,20 +270,20 @@ impl Gluing {
         }
     }
 
-    /// Whether all numbers that are added or taken away are small between wide automata where no occurrence goes on,
-    /// and C is held on each side as it is told.
+    /// Whether all numbers that are added or taken away are small where no occurrence goes on, and C is held on each
+    /// side as it is told.
     #[inline(always)]
     fn are_held_plain(self, here: bool, there: bool, left: Side, right: Side) -> bool
-        requires wide { self.wide ≡ true }
-        requires apart { self.joins ≡ false }
-        ensures { result ≡ true → IsPlain self (ends_in left) (ends_in right)
-            × IsHeldBy self.result here left.c × IsHeldBy self.result there right.c }
+        requires { self.joins ≡ false }
+        ensures { result ≡ true → ArePlainHeld here there self (ends_in left) (ends_in right) }
     {
-        self.are_results_plain(left, right)
-            && is_held_by(self.result, here, left.c)
-            && is_held_by(self.result, there, right.c)
-            && are_plain(left.e)
-            && are_plain(right.e)
+        if !self.are_results_plain(left, right) {
+            return false;
+        }
+        if !is_side_held(self.result, here, left) {
+            return false;
+        }
+        is_side_held(self.result, there, right)
     }
 
     /// The glued ends of two hulls before the mark, where one occurrence goes on.
@@ -319,7 +299,7 @@ impl Gluing {
             (pointed_spans (sides N) (spans_of (unpacked (lanes_of N right.now)))) (joined_expression self)) }
     {
         let (first, second) = (Side::of(left), Side::of(right));
-        if self.is_joined_plain(first, second) {
+        if self.is_soon_plain(first, second) {
             self.joined_by::<Plain>(first, second)
         } else {
             self.joined_by::<Clamped>(first, second)
@@ -488,9 +468,10 @@ impl Gluing {
         S::number(self.worth)
     }
 
-    /// Whether all numbers that are added are small between hulls of which this is known. It is false between wide
-    /// automata where no occurrence goes on: there it is told whether C is held.
+    /// Whether all numbers that are added or taken away are small between hulls of which this is known, where one
+    /// occurrence goes on.
     pub(crate) fn is_plain_within(self, left: Watched, right: Watched) -> bool
+        requires { self.joins ≡ true }
         ensures { (a b : EachOf Ends) → result ≡ true →
             IsKnown self.result left a → IsKnown self.result right b → IsPlain self a b }
     {
@@ -499,40 +480,45 @@ impl Gluing {
                 && self.is_plain_under(first, second),
             (Watched::Wide(here), Watched::Wide(there)) => self.wide
                 && self.is_spread_small(here, there),
-            _ => !self.wide && self.adds_nothing(),
+            _ => self.adds_nothing(),
         }
     }
 
-    /// Whether nothing is added between narrow automata.
+    /// Whether nothing is added or taken away.
     #[inline(always)]
     fn adds_nothing(self) -> bool
-        requires narrow { self.wide ≡ false }
         ensures { (a b : EachOf Ends) → result ≡ true → IsPlain self a b }
     {
-        !(is_add(self.result) || is_add(self.fold))
+        !self.adds_any()
     }
 
-    /// Whether all numbers that are added are small between hulls of narrow automata whose ends lie within these.
+    /// Whether something is added to what is folded, or taken away from it.
+    #[inline(always)]
+    fn adds_any(self) -> bool
+        ensures { result ≡ adds_any self }
+    {
+        self.wide | (is_add(self.result) | is_add(self.fold))
+    }
+
+    /// Whether all numbers that are added are small between hulls of narrow automata whose ends lie within these, where
+    /// one occurrence goes on.
     fn is_plain_under(self, left: Peaks, right: Peaks) -> bool
+        requires joined { self.joins ≡ true }
         requires narrow { self.wide ≡ false }
         ensures { (a b : EachOf Ends) → result ≡ true → IsUnder left a → IsUnder right b → IsPlain self a b }
     {
-        if self.joins {
-            self.is_joined_plain(left.side(), right.side())
-        } else {
-            self.is_apart_plain(left.side(), right.side())
-        }
+        self.is_joined_plain(left.side(), right.side())
     }
 
-    /// Whether one occurrence goes on between small hulls of wide automata, the greatest is folded, and C is held on
-    /// each side on which it is folded: then all numbers that are added or taken away are small.
+    /// Whether the greatest is folded between small hulls of wide automata where one occurrence goes on, and C is held
+    /// on each side on which it is folded: then all numbers that are added or taken away are small.
     fn is_spread_small(self, here: bool, there: bool) -> bool
-        requires { self.wide ≡ true }
+        requires joined { self.joins ≡ true }
+        requires wide { self.wide ≡ true }
         ensures { (a b : EachOf Ends) → result ≡ true →
             IsSmall self.result here a → IsSmall self.result there b → IsPlain self a b }
     {
-        self.joins
-            && is_greatest(self.fold)
+        is_greatest(self.fold)
             && (!folds_held(self.trims, self.held_left) || here)
             && (!folds_held(self.trims, self.held_right) || there)
     }
@@ -544,28 +530,30 @@ impl Gluing {
         ensures { result ≡ true → IsPlain self (ends_in left) (ends_in right) }
     {
         let adds = is_add(self.result);
-        if !self.are_results_plain(left, right) {
-            return false;
-        }
-        if self.wide {
-            is_held_plain(adds, left) && is_held_plain(adds, right)
-        } else {
-            !adds || are_plain(left.c) && are_plain(right.c)
-        }
+        self.are_results_plain(left, right)
+            && is_held_plain(self.wide, adds, left)
+            && is_held_plain(self.wide, adds, right)
     }
 
-    /// Whether all numbers that are added or taken away are small, where one occurrence goes on. It is false between
-    /// wide automata: to find it out there takes longer than clamped sums.
+    /// Whether all numbers that are added or taken away are small, where one occurrence goes on.
     #[inline(always)]
     fn is_joined_plain(self, left: Side, right: Side) -> bool
         requires { self.joins ≡ true }
         ensures { result ≡ true → IsPlain self (ends_in left) (ends_in right) }
     {
-        if self.wide || !self.are_results_plain(left, right) {
-            return false;
-        }
-        let adds = is_add(self.result) || is_add(self.fold);
-        !adds || self.is_fold_plain::<OfWhole>(self.fold, left, right)
+        self.are_results_plain(left, right)
+            && self.is_whole_plain(left, right)
+            && self.is_away_plain(left, right)
+    }
+
+    /// Whether all numbers that are added are small, where one occurrence of narrow automata goes on. It is false
+    /// between wide ones: to find it out there takes longer than clamped sums.
+    #[inline(always)]
+    fn is_soon_plain(self, left: Side, right: Side) -> bool
+        requires { self.joins ≡ true }
+        ensures { result ≡ true → IsPlain self (ends_in left) (ends_in right) }
+    {
+        !self.wide && self.is_joined_plain(left, right)
     }
 
     /// Whether the results of both sides are small, if they are added.
@@ -574,6 +562,25 @@ impl Gluing {
         ensures { result ≡ true → is_add self.result ≡ true → ArePlain left.r × ArePlain right.r }
     {
         !is_add(self.result) || are_plain(left.r) && are_plain(right.r)
+    }
+
+    /// Whether all numbers that are folded into the whole of an occurrence are small, if something is added to it or
+    /// taken away from it.
+    #[inline(always)]
+    fn is_whole_plain(self, left: Side, right: Side) -> bool
+        ensures { result ≡ true → adds_any self ≡ true →
+            IsFoldPlain Whole self.fold self (ends_in left) (ends_in right) }
+    {
+        !self.adds_any() || self.is_fold_plain::<OfWhole>(self.fold, left, right)
+    }
+
+    /// Whether all numbers that are folded into what is taken away are small, and the whole is no sum.
+    #[inline(always)]
+    fn is_away_plain(self, left: Side, right: Side) -> bool
+        ensures { result ≡ true → self.wide ≡ true →
+            (is_add self.fold ≡ false) × IsFoldPlain Away Min self (ends_in left) (ends_in right) }
+    {
+        !self.wide || !is_add(self.fold) && self.is_fold_plain::<OfAway>(Op::Min, left, right)
     }
 
     /// Whether all numbers that are folded into a part by an operator are small.
@@ -677,13 +684,30 @@ fn wide_apart<const N: usize>(operator: Op, left: &PackedHull<N>, right: &Packed
     }
 }
 
-/// Whether what is held of an occurrence lies between small numbers, the greatest and the least of its cells. Where
-/// nothing is held, the greatest is infinite; that is as good, if nothing is added to it.
+/// Whether what is held of an occurrence is small, if something is added to it or taken away from it. Where nothing is
+/// held, it is infinite; that is as good, if nothing is added to it.
 #[inline(always)]
-fn is_held_plain(adds: bool, side: Side) -> bool
-    ensures { result ≡ true → IsHeldPlain adds (ends_in side) }
+fn is_held_plain(wide: bool, adds: bool, side: Side) -> bool
+    ensures { result ≡ true → IsHeldPlain wide adds (ends_in side) }
 {
-    are_plain(side.e) && (are_plain(side.c) || !adds && is_infinity(side.c))
+    (!wide || are_plain(side.e)) && (!(wide || adds) || is_kept_plain(adds, side.c))
+}
+
+/// Whether ends are small, or both one infinity and nothing is added to them.
+#[inline(always)]
+fn is_kept_plain(adds: bool, e: Ends) -> bool
+    ensures { result ≡ true → ArePlain e ⊎ ((adds ≡ false) × IsInfinity e) }
+{
+    are_plain(e) || !adds && is_infinity(e)
+}
+
+/// Whether C is held as it is told, and all numbers that are taken away from it are small.
+#[inline(always)]
+fn is_side_held(operator: Op, held: bool, side: Side) -> bool
+    ensures { (wide : Bool) → result ≡ true →
+        IsHeldPlain wide (is_add operator) (ends_in side) × IsHeldBy wide operator held side.c }
+{
+    is_held_by(operator, held, side.c) && are_plain(side.e)
 }
 
 /// Whether an operator adds.

@@ -1,9 +1,9 @@
 //! How far out the ends of the registers of many hulls lie: where that isn't far, no sum of theirs has to be clamped.
 
-ghost use Rattle.std.specs.Prelude.{◌≡◌, ◌<◌, ◌+◌, ◌≤◌, ◌≤ℤ◌, true};
+ghost use Rattle.std.specs.Prelude.{◌≡◌, ◌<◌, ◌+◌, ◌≤◌, ◌≤ℤ◌, true, IfSome};
 ghost use Rattle.std.specs.Int.{int_max};
 ghost use Rattle.ts_automaton.specs.Registers.{EachOf};
-ghost use Rattle.ts_meet.specs.Peaks.{AreAllUnder, IsBelow, IsUnder, sides_of_peaks};
+ghost use Rattle.ts_meet.specs.Peaks.{AreAllUnder, IsAnswerHeld, IsBelow, IsUnder, sides_of_peaks};
 ghost use Rattle.ts_meet.specs.Settled.{ArePlaces};
 ghost use Rattle.ts_meet.specs.Sides.{ends_in, side_of};
 ghost use Rattle.ts_row.specs.Rows.{lanes_of};
@@ -13,8 +13,10 @@ ghost use Rattle.ts_sweep.specs.Packed.{IsPacked, ends};
 ghost use Rattle.ts_sweep.specs.Sides.{lane_count, sides};
 
 use crate::fold::SUM;
+use crate::gluing::is_add;
 use crate::marked::{greater, nothing};
-use crate::side::Side;
+use crate::side::{Side, is_small_where};
+use ts_automaton::Op;
 use ts_sweep::packed::{Ends, Packed, PackedHull};
 
 /// The greatest end of C and of R, and the greatest of each end of D.
@@ -81,6 +83,26 @@ impl Peaks {
             d: greater(self.d, side.d),
             r: watched::<O>(self.r, side.r),
         }
+    }
+
+    /// Whether C of narrow automata is held, if all numbers that are added in the answer of a run are small. Nothing is
+    /// taken away from it, so it is as if held.
+    #[inline(always)]
+    pub(crate) fn held(self, wide: bool, operator: Op) -> Option<bool>
+        ensures { (a : EachOf Ends) → IfSome result (λ held.
+            IsUnder self a → IsAnswerHeld wide operator held a) }
+    {
+        let adds = is_add(operator);
+        if wide {
+            return None;
+        }
+        if !is_small_where(adds, self.r) {
+            return None;
+        }
+        if !is_small_where(adds, self.c) {
+            return None;
+        }
+        Some(true)
     }
 
     /// Registers of narrow automata, both ends of each at its peak.

@@ -60,14 +60,10 @@ pub(crate) trait Seam<const N: usize>: Copy {
 #[derive(Clone, Copy)]
 pub(crate) struct Apart<const O: u8, const WIDE: bool>;
 
-/// No occurrence of narrow automata goes on, and all numbers that are added are small.
+/// No occurrence goes on, and all numbers that are added or taken away are small. `HERE` and `THERE` are whether C is
+/// held on the left and on the right.
 #[derive(Clone, Copy)]
-pub(crate) struct PlainApart<const O: u8>;
-
-/// No occurrence of wide automata goes on, and their registers are small. `HERE` and `THERE` are whether C is held on
-/// the left and on the right.
-#[derive(Clone, Copy)]
-pub(crate) struct SmallApart<const O: u8, const HERE: bool, const THERE: bool>;
+pub(crate) struct PlainApart<const O: u8, const WIDE: bool, const HERE: bool, const THERE: bool>;
 
 /// One occurrence goes on, and all numbers that are added or taken away are small. `F` is the number of the operator
 /// that folds its cells, `TRIMS` is whether it leaves a cell out at its end.
@@ -97,43 +93,24 @@ impl<const O: u8, const WIDE: bool, const N: usize> Seam<N> for Apart<O, WIDE> {
     }
 }
 
-impl<const O: u8, const N: usize> Seam<N> for PlainApart<O> {
+impl<const O: u8, const WIDE: bool, const HERE: bool, const THERE: bool, const N: usize> Seam<N>
+    for PlainApart<O, WIDE, HERE, THERE> {
     ghost use Rattle.std.specs.Prelude.{◌≡◌, false};
-    ghost use Rattle.ts_meet.specs.Joints.{IsPlain, numbered};
+    ghost use Rattle.ts_meet.specs.Joints.{numbered};
+    ghost use Rattle.ts_meet.specs.Peaks.{ArePlainHeld};
     ghost use Rattle.ts_meet.specs.SideLaws.{plain_with_worth};
 
-    ghost fits = { λ g. (g.joins ≡ false) × (g.result ≡ numbered O) × (g.wide ≡ false) };
+    ghost fits = { λ g. (g.joins ≡ false) × (g.result ≡ numbered O) × (g.wide ≡ WIDE) };
 
-    ghost takes = { λ g a b. IsPlain g a b };
-
-    ghost any_worth = { λ g d h. h };
-
-    ghost takes_any = { λ g d a b h. plain_with_worth g d a b h };
-
-    #[inline(always)]
-    fn pointed(self, gluing: Gluing, left: &PackedHull<N>, right: &PackedHull<N>) -> Ends {
-        let known = gluing.known(numbered(O), gluing.fold, false, gluing.trims);
-        known.plain_apart(left, right)
-    }
-}
-
-impl<const O: u8, const HERE: bool, const THERE: bool, const N: usize> Seam<N>
-    for SmallApart<O, HERE, THERE> {
-    ghost use Rattle.std.specs.Prelude.{◌≡◌, true, false};
-    ghost use Rattle.ts_meet.specs.Joints.{numbered};
-    ghost use Rattle.ts_meet.specs.Peaks.{IsSmall};
-
-    ghost fits = { λ g. (g.joins ≡ false) × (g.result ≡ numbered O) × (g.wide ≡ true) };
-
-    ghost takes = { λ g a b. IsSmall (numbered O) HERE a × IsSmall (numbered O) THERE b };
+    ghost takes = { λ g a b. ArePlainHeld HERE THERE g a b };
 
     ghost any_worth = { λ g d h. h };
 
-    ghost takes_any = { λ g d a b h. h };
+    ghost takes_any = { λ g d a b h. (plain_with_worth g d a b h.0, h.1, h.2) };
 
     #[inline(always)]
     fn pointed(self, gluing: Gluing, left: &PackedHull<N>, right: &PackedHull<N>) -> Ends {
-        let known = gluing.known(numbered(O), gluing.fold, true, gluing.trims);
+        let known = gluing.known(numbered(O), gluing.fold, WIDE, gluing.trims);
         known.held_apart(HERE, THERE, left, right)
     }
 }

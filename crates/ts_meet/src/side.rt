@@ -6,7 +6,7 @@ ghost use Rattle.ts_meet.specs.Sides.{ends_in, pointed_ends, shown_ends, side_of
 ghost use Rattle.ts_row.specs.Rows.{lanes_of};
 ghost use Rattle.ts_sweep.specs.Fronts.{ArePlain};
 ghost use Rattle.ts_sweep.specs.Lanes.{least};
-ghost use Rattle.ts_sweep.specs.Packed.{AreSome, name_ends};
+ghost use Rattle.ts_sweep.specs.Packed.{AreSome, ends, name_ends};
 ghost use Rattle.ts_sweep.specs.Sides.{lane_count, sides};
 
 use ts_automaton::Op;
@@ -110,6 +110,14 @@ pub(crate) fn are_plain(e: Ends) -> bool
     ensures { result ≡ true → ArePlain e }
 {
     e.below.max(e.above) <= PLAIN
+}
+
+/// Whether a number that no end is above is small, where it has to be.
+#[inline(always)]
+pub(crate) fn is_small_where(needed: bool, top: i64) -> bool
+    ensures { result ≡ true → needed ≡ true → ArePlain (ends top top) }
+{
+    !needed || top <= PLAIN
 }
 
 /// Whether cells that may be none leave a fold with a small number small: the upper end decides on the greatest, the

@@ -1,6 +1,6 @@
 //! Whether the ends of the registers of many wide hulls are small, so that no sum of theirs has to be clamped.
 
-ghost use Rattle.std.specs.Prelude.{◌≡◌, ◌+◌, ◌≤◌, true};
+ghost use Rattle.std.specs.Prelude.{◌≡◌, ◌+◌, ◌≤◌, Bool, true};
 ghost use Rattle.ts_meet.specs.Joints.{numbered};
 ghost use Rattle.ts_meet.specs.Peaks.{AreAllSmall, AreRestSmall, HoldsInHull, IsHeldBy, IsSmall};
 ghost use Rattle.ts_meet.specs.Settled.{ArePlaces};
@@ -71,7 +71,7 @@ fn are_rest_small(side: Side) -> bool
 /// Whether C is small where it is held, and otherwise the infinity that the operator on results passes over.
 #[inline(always)]
 pub(crate) fn is_held_by(operator: Op, held: bool, c: Ends) -> bool
-    ensures { result ≡ true → IsHeldBy operator held c }
+    ensures { (wide : Bool) → result ≡ true → IsHeldBy wide operator held c }
 {
     if held {
         are_plain(c)

@@ -1,6 +1,6 @@
-use Rattle.std.proofs.Common.{true, false, sym, ap, ◌∙◌, subst}
+use Rattle.std.proofs.Common.{true, false, sym, subst}
 use Rattle.ts_automaton.specs.Registers.{spans_of}
-use Rattle.ts_glue.specs.Glue.{GlueTakes, apart, glue_in}
+use Rattle.ts_glue.specs.Glue.{apart, glue_in}
 use Rattle.ts_hull.specs.Sealed.{sealed_spans}
 use Rattle.ts_row.specs.Rows.{lanes_of}
 use Rattle.ts_sweep.specs.Packed.{IsPackOf, unpacked}
@@ -20,8 +20,7 @@ answers_held-requires g c =
     let some_a = subst AreSomeEnds (sym c.of-first.ensures) (lanes_some s n xs given.registers given.left) in
     let some_b = subst AreSomeEnds (sym c.of-second.ensures) (lanes_some s n ys given.registers given.right) in
     let is = c.are_held_plain.ensures c.if-are_held_plain.true in record {
-      takes = subst (λ w. GlueTakes TakesPlain plain_values a b (apart w f.result)) made.parts.0
-          (plain_apart a b some_a some_b f made.worth is.0 made.apart);
+      takes = plain_apart a b some_a some_b f made.worth is.0 made.apart;
       some_left = some_a;
       some_right = some_b;
       here = is.1;
@@ -42,6 +41,6 @@ returns-then-are_held_plain g c =
     (subst (λ w. IsPackOf c.answers_held.result (glue_in sealed_spans left right (apart w f.result))) made.parts.0
     (glued_packs plain_values TakesPlain cell_packs plain_packs (told f false) a b made.worth
     (plain_apart a b some_a some_b f made.worth is.0 made.apart) c.answers_held.result
-    (c.answers_held.ensures ∙ ap (λ w. glue_in plain_values a b (apart w f.result)) (sym made.parts.0)) left right
+    c.answers_held.ensures left right
     (subst (λ z. ArePackOf z left) (sym c.of-first.ensures) (lanes_pack s n xs given.registers given.left))
     (subst (λ z. ArePackOf z right) (sym c.of-second.ensures) (lanes_pack s n ys given.registers given.right))))

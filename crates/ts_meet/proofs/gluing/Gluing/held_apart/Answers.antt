@@ -1,6 +1,5 @@
-use Rattle.std.proofs.Common.{Bool, false, sym, ap, ◌∙◌, subst}
+use Rattle.std.proofs.Common.{false, sym, subst}
 use Rattle.ts_automaton.specs.Registers.{spans_of}
-use Rattle.ts_glue.specs.Glue.{GlueTakes, apart, glue_in}
 use Rattle.ts_row.specs.Rows.{lanes_of}
 use Rattle.ts_sweep.specs.Packed.{unpacked}
 use Rattle.ts_sweep.specs.Sides.{lane_count, sides}
@@ -10,7 +9,6 @@ use Rattle.ts_meet.specs.SideLaws.{cell_packs, plain_packs}
 use Rattle.ts_meet.specs.Sides.{AreSomeEnds, ArePackOf, TakesPlain, ends_in, plain_values, pointed_spans, side_of}
 use Rattle.ts_meet.proofs.Gluings.{glued_packs, plain_apart, told}
 use Rattle.ts_meet.proofs.Pointed.{lanes_pack, lanes_some}
-use Rattle.ts_meet.proofs.Watched.{small_apart}
 use Rattle.ts_meet.proofs.gluing.Gluing.held_apart.Goals as goal
 
 pub answers_held-requires : goal.answers_held-requires
@@ -20,15 +18,13 @@ answers_held-requires g c =
     let a = ends_in c.of.result in let b = ends_in c.of-2.result in
     let some_a = subst AreSomeEnds (sym c.of.ensures) (lanes_some s n xs given.registers given.left) in
     let some_b = subst AreSomeEnds (sym c.of-2.ensures) (lanes_some s n ys given.registers given.right) in
-    let plain = small_apart f c.args.here c.args.there (side_of s xs) (side_of s ys) given.wide given.apart given.small_left given.small_right in
-    let takes = subst (λ w. GlueTakes TakesPlain plain_values a b (apart w f.result)) given.wide
-    (plain_apart a b some_a some_b f given.worth
-    (subst (λ z. IsPlain f z b) (sym c.of.ensures) (subst (IsPlain f (side_of s xs)) (sym c.of-2.ensures) plain)) given.apart) in record {
-      takes = takes;
+    record {
+      takes = plain_apart a b some_a some_b f given.worth
+          (subst (λ z. IsPlain f z b) (sym c.of.ensures) (subst (IsPlain f (side_of s xs)) (sym c.of-2.ensures) given.held.0)) given.apart;
       some_left = some_a;
       some_right = some_b;
-      here = subst (λ z. IsHeldBy f.result c.args.here z.c) (sym c.of.ensures) given.small_left.1;
-      there = subst (λ z. IsHeldBy f.result c.args.there z.c) (sym c.of-2.ensures) given.small_right.1;
+      here = subst (λ z. IsHeldBy f.wide f.result c.args.here z.c) (sym c.of.ensures) given.held.1;
+      there = subst (λ z. IsHeldBy f.wide f.result c.args.there z.c) (sym c.of-2.ensures) given.held.2;
     }
 
 pub returns : goal.returns
@@ -39,11 +35,9 @@ returns g c =
     let left = pointed_spans s (spans_of (unpacked xs)) in let right = pointed_spans s (spans_of (unpacked ys)) in
     let some_a = subst AreSomeEnds (sym c.of.ensures) (lanes_some s n xs given.registers given.left) in
     let some_b = subst AreSomeEnds (sym c.of-2.ensures) (lanes_some s n ys given.registers given.right) in
-    let plain = small_apart f c.args.here c.args.there (side_of s xs) (side_of s ys) given.wide given.apart given.small_left given.small_right in
     glued_packs plain_values TakesPlain cell_packs plain_packs (told f false) a b given.worth
     (plain_apart a b some_a some_b f given.worth
-    (subst (λ z. IsPlain f z b) (sym c.of.ensures) (subst (IsPlain f (side_of s xs)) (sym c.of-2.ensures) plain)) given.apart)
-    c.answers_held.result
-    (c.answers_held.ensures ∙ ap (λ w. glue_in plain_values a b (apart w f.result)) (sym given.wide)) left right
+    (subst (λ z. IsPlain f z b) (sym c.of.ensures) (subst (IsPlain f (side_of s xs)) (sym c.of-2.ensures) given.held.0)) given.apart)
+    c.answers_held.result c.answers_held.ensures left right
     (subst (λ z. ArePackOf z left) (sym c.of.ensures) (lanes_pack s n xs given.registers given.left))
     (subst (λ z. ArePackOf z right) (sym c.of-2.ensures) (lanes_pack s n ys given.registers given.right))
