@@ -25,6 +25,7 @@ pub mod Widths
 pub mod Unswept
 pub mod Equals
 pub mod SmallLanes
+pub mod ShownLanes
 pub mod Unpacked
 pub mod PairSteps
 pub mod PairLaws

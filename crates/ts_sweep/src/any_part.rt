@@ -110,6 +110,11 @@ impl<'a> Part for AnyPart<'a> {
     }
 
     #[inline(always)]
+    fn is_word(self) -> bool {
+        false
+    }
+
+    #[inline(always)]
     fn is_narrow(self) -> bool {
         match self {
             AnyPart::Front(e) | AnyPart::Tail(_, e) => is_narrow(e),

@@ -75,6 +75,9 @@ pub trait EachPart: Copy {
     fn any_tail(self) -> bool
         ensures { result ≡ any_tail (tails self) };
 
+    /// Whether the part for C is known to be a single word.
+    fn c_is_word(self) -> bool;
+
     /// Whether those that narrow hulls have may be evaluated on one end alone.
     fn are_narrow(self) -> bool
         ensures { result ≡ true → (s : Sides) → IsCutFor s (splits self) };
@@ -276,6 +279,11 @@ impl<C: Part, E: Part, D: Part, F: Part, R: Part> EachPart for Parts<C, E, D, F,
     }
 
     #[inline(always)]
+    fn c_is_word(self) -> bool {
+        self.c.is_word()
+    }
+
+    #[inline(always)]
     fn are_narrow(self) -> bool {
         self.c.is_narrow() & self.d.is_narrow() & self.r.is_narrow()
     }
@@ -354,7 +362,7 @@ impl<H: Packed, P: EachPart> Fronts<H> for P {
 
     #[inline(always)]
     fn taken(self, run: H, h: H, value: i64) -> H {
-        if !h.is_some() {
+        if !h.holds_some(self.c_is_word()) {
             return run;
         }
         run.joined(self.all_begun(h, value))

@@ -17,7 +17,16 @@
 
 ghost use Rattle.std.specs.Prelude.{◌≡◌, ◌+◌, ◌*◌, ◌<◌, ◌≤◌, IfSome, Some};
 ghost use Rattle.ts_sweep.specs.Lanes.{greater_of, some_lanes};
-ghost use Rattle.ts_sweep.specs.Packed.{IsPlace, ends_in, is_wide, name_ends, number_ends, place, with_ends_in};
+ghost use Rattle.ts_sweep.specs.Packed.{
+  IsPacked,
+  IsPlace,
+  ends_in,
+  is_wide,
+  name_ends,
+  number_ends,
+  place,
+  with_ends_in,
+};
 ghost use Rattle.ts_sweep.specs.Sides.{as_read, has_wide, kept_ends, lane_count, lanes_in, sides, with_kept};
 ghost use Rattle.ts_sweep.specs.Small.{IsSmall};
 
@@ -85,6 +94,12 @@ pub trait Packed: Hull {
     fn is_some(&self) -> bool
         ensures { result ≡ some_lanes (lanes self.now) };
 
+    /// Whether registers lie in a packed hull, which any lane shows. It is told whether C is taken in as a pair of
+    /// lanes.
+    fn holds_some(&self, c_paired: bool) -> bool
+        requires packed { IsPacked count (lanes self.now) }
+        ensures { result ≡ some_lanes (lanes self.now) };
+
     /// The ends of a register. An end that the hull hasn't is 0, which may be added to anything.
     fn ends(&self, register: Name) -> Ends
         requires registers { 6 ≤ count }
@@ -145,6 +160,34 @@ fn has_some<const N: usize>(at: [i64; N]) -> bool
     ensures { result ≡ some_lanes (lanes_in N at.entry) }
 {
     N > 0 && at[0] != i64::MIN
+}
+
+/// Whether packed lanes hold registers: any lane shows it.
+#[inline(always)]
+fn shows_some<const N: usize>(at: [i64; N], lane: usize) -> bool
+    requires whole { 6 ≤ N }
+    requires inside { lane < N }
+    requires packed { IsPacked (lane_count N) (lanes_in N at) }
+    ensures { result ≡ some_lanes (lanes_in N at.entry) }
+{
+    at[lane] != i64::MIN
+}
+
+/// Whether packed lanes hold registers. The compiler takes in two lanes as a pair, but not where one of them is read
+/// before the other, as it is here. So this reads a lane of F in a wide hull, since moves mostly change its ends one by
+/// one, and one of D in a narrow hull whose C is a pair.
+#[inline(always)]
+fn holds_some<const N: usize>(at: [i64; N], c_paired: bool) -> bool
+    requires packed { IsPacked (lane_count N) (lanes_in N at) }
+    ensures { result ≡ some_lanes (lanes_in N at.entry) }
+{
+    if N >= 10 {
+        shows_some::<N>(at, 6)
+    } else if N >= 6 && c_paired {
+        shows_some::<N>(at, 2)
+    } else {
+        has_some::<N>(at)
+    }
 }
 
 /// Whether there are lanes for five registers.
@@ -310,6 +353,11 @@ impl<const N: usize> Packed for PackedHull<N> {
     #[inline(always)]
     fn is_some(&self) -> bool {
         has_some::<N>(self.at)
+    }
+
+    #[inline(always)]
+    fn holds_some(&self, c_paired: bool) -> bool {
+        holds_some::<N>(self.at, c_paired)
     }
 
     #[inline(always)]

@@ -46,6 +46,9 @@ pub trait Part: Copy {
     fn has_tail(self) -> bool
         ensures { result ≡ tails self };
 
+    /// Whether the expression is known to be a single word.
+    fn is_word(self) -> bool;
+
     /// Whether neither E nor F nor a difference stands in the front: then it may be evaluated on one end alone.
     fn is_narrow(self) -> bool
         ensures { result ≡ true → (s : Sides) → IsSplitFor s (split self) };
@@ -130,6 +133,11 @@ impl<E: Front> Part for Whole<E> {
     }
 
     #[inline(always)]
+    fn is_word(self) -> bool {
+        self.front.words() == 1
+    }
+
+    #[inline(always)]
     fn is_narrow(self) -> bool {
         self.front.is_narrow()
     }
@@ -188,6 +196,11 @@ impl<O: Folds, E: Front> Part for Tail<O, E> {
     #[inline(always)]
     fn has_tail(self) -> bool {
         true
+    }
+
+    #[inline(always)]
+    fn is_word(self) -> bool {
+        false
     }
 
     #[inline(always)]
