@@ -1,5 +1,5 @@
 -- A state that no series reaches gives nothing.
-use Rattle.std.proofs.Common.{◌≡◌, ℕ, ◌<◌, ◌≤◌, Bool, true, false, cond, nat_eq, ℤ, List, [], get_or, refl, sym, ap, ◌∙◌}
+use Rattle.std.proofs.Common.{◌≡◌, inl, inr, ℕ, ◌<◌, ◌≤◌, Bool, true, false, cond, nat_eq, ℤ, List, [], get_or, refl, sym, ap, ◌∙◌}
 use Rattle.ts_base.specs.declared.letter.Letter.{Letter}
 use Rattle.ts_base.specs.declared.letter.Letter.TheVariants.{Less, Equal, Greater}
 use Rattle.ts_automaton.specs.declared.regs.Hull.{Hull}
@@ -11,23 +11,22 @@ use Rattle.ts_hull.specs.Sweeps.{compares}
 use Rattle.ts_hull.proofs.HullLaws.{none_takes_none}
 use Rattle.ts_hull.proofs.SplitLaws.{after_is}
 use Rattle.ts_hull.proofs.Sums.{total_same, total_none}
-use Rattle.ts_row.specs.Rows.{nothing, lanes_of, IsColumn, IsRow, hull_in, gives_to, seen_gives, state_gives, HasTaken}
+use Rattle.ts_row.specs.Rows.{nothing, lanes_of, IsRow, hull_in, gives_to, seen_gives, state_gives, HasTaken}
 use Rattle.ts_sweep.specs.declared.packed.PackedHull.{PackedHull}
-use Rattle.ts_sweep.specs.Columns.{gives, hull_at}
-use Rattle.ts_sweep.specs.Covers.{join_of_all}
+use Rattle.ts_sweep.specs.Columns.{gives}
+use Rattle.ts_sweep.specs.FrontLaws.{never_added}
 use Rattle.ts_sweep.specs.Lanes.{some_lanes}
-use Rattle.ts_sweep.specs.Packed.{unpacked}
+use Rattle.ts_sweep.specs.MoveLaws.{first_is}
+use Rattle.ts_sweep.specs.Packed.{unpacked, IsPacked}
 use Rattle.ts_sweep.specs.PackedLaws.{none_unpacked, packed_takes_none}
 use Rattle.ts_sweep.specs.Sides.{lane_count, seen_hull, sides}
-use Rattle.ts_sweep.proofs.CoverLaws.{none_reached}
 use Rattle.ts_sweep.proofs.SeenLaws.{none_seen}
 
--- where nothing is in the cover, nothing is in any hull
-pub not_reached : (n count : ℕ) (column : List (PackedHull n)) (some : Bool) → 6 ≤ lane_count n → IsColumn n count column →
-    some ≡ some_lanes (lanes_of n (join_of_all n (λ i. get_or column i (nothing n)) count)) → some ≡ false → (i : ℕ) → i < count →
-    hull_at (lanes_of n) (nothing n) column i ≡ none
-not_reached n count column some big packed is empty i lt =
-    ap unpacked (none_reached n (λ k. get_or column k (nothing n)) count big packed.1 (sym is ∙ empty) i lt) ∙ none_unpacked (lane_count n) big
+-- a packed hull in which no registers lie
+pub hull_nothing : (n : ℕ) (h : PackedHull n) → 6 ≤ lane_count n → IsPacked (lane_count n) (lanes_of n h) →
+    some_lanes (lanes_of n h) ≡ false → unpacked (lanes_of n h) ≡ none
+hull_nothing n h big (inl e) empty = ap unpacked e ∙ none_unpacked (lane_count n) big
+hull_nothing n h big (inr p) empty = never_added (sym (first_is (lane_count n) (lanes_of n h) big p) ∙ empty)
 
 gives_nothing : (m : Move) (l : Letter) (twin : Bool) (n : ℕ) (v : ℕ → ℤ) (h : ℕ → Hull) (w : ℤ) → ((i : ℕ) → i < n → h i ≡ none) →
     gives m l twin n v h w ≡ none

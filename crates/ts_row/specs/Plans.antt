@@ -230,7 +230,13 @@ abbrev pub unplanned_move : MovePlan
 unplanned_move = record { shape = Other; readings = None; operators = None }
 
 abbrev pub unplanned : StatePlan
-unplanned = record { less = unplanned_move; equal = unplanned_move; greater = unplanned_move; equals = Alone }
+unplanned = record {
+  less = unplanned_move;
+  equal = unplanned_move;
+  greater = unplanned_move;
+  equals = Alone;
+  adds = true;
+}
 
 -- the plan of an automaton: of each of its states
 abbrev pub IsPlanOf : Body → Plan → Type 0

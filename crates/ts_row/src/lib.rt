@@ -26,6 +26,7 @@ mod row_steps;
 mod row_view;
 mod shapes;
 mod start;
+mod state_cover;
 mod sum_shapes;
 mod words;
 

@@ -95,13 +95,15 @@ pub(crate) struct MovePlan {
     pub(crate) operators: Option<Operators>,
 }
 
-/// How the moves of a state are taken in.
+/// How the moves of a state are taken in, and whether any of them adds: sums alone ask how large the numbers of hulls
+/// are.
 #[derive(Clone, Copy)]
 pub(crate) struct StatePlan {
     pub(crate) less: MovePlan,
     pub(crate) equal: MovePlan,
     pub(crate) greater: MovePlan,
     pub(crate) equals: Equals,
+    pub(crate) adds: bool,
 }
 
 /// How the moves of an automaton are taken in.
@@ -424,6 +426,20 @@ fn equals_of(less: &Turn, equal: &Turn, greater: &Turn) -> Equals
     }
 }
 
+/// Whether a sum or a difference stands in an expression.
+fn has_sum(e: &Expr) -> bool {
+    match e {
+        Expr::Add(_, _) | Expr::Sub(_, _) => true,
+        Expr::Max(a, b) | Expr::Min(a, b) => has_sum(a) || has_sum(b),
+        _ => false,
+    }
+}
+
+/// Whether a move adds.
+fn adds(t: &Turn) -> bool {
+    has_sum(&t.c) || has_sum(&t.e) || has_sum(&t.d) || has_sum(&t.f) || has_sum(&t.r)
+}
+
 impl StatePlan {
     /// The plan of a state.
     fn of(a: &Automaton, q: u8) -> StatePlan
@@ -439,6 +455,7 @@ impl StatePlan {
             equal: MovePlan::of(equal, a.wide(), true),
             greater: MovePlan::of(greater, a.wide(), false),
             equals,
+            adds: adds(less) || adds(equal) || adds(greater),
         }
     }
 }
@@ -458,6 +475,7 @@ impl Plan {
             equal: unplanned,
             greater: unplanned,
             equals: Equals::Alone,
+            adds: true,
         };
         let mut states = [rest; 8];
         for q in 0..a.states() {

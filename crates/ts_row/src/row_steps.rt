@@ -20,11 +20,10 @@ use crate::pair_shapes::take_by_pairs;
 use crate::plan::{Equals, MovePlan, Plan, StatePlan, turn};
 use crate::row_view::RowView;
 use crate::shapes::take_shape;
+use crate::state_cover::{is_reached, state_cover};
 use std::alloc::Global;
 use ts_automaton::{Automaton, Turn};
 use ts_base::{Letter, Memory};
-use ts_sweep::column::Dense;
-use ts_sweep::cover::cover_of;
 use ts_sweep::here::take_equal;
 use ts_sweep::hull::Hull;
 use ts_sweep::packed::PackedHull;
@@ -279,11 +278,11 @@ fn take_state<const N: usize>(
         (seen_gives N a.now q (count_in values.now) (value_in values.now)
         (hull_at (lanes_of N) (nothing N) column.now)) next.old next.new }
 {
-    let covered = cover_of::<N, Dense>(Dense, column, values.values.len());
-    if !covered.some {
+    let count = values.values.len();
+    if !is_reached(column, count) {
         return;
     }
-    let cover = covered.cover;
+    let cover = state_cover(plan.adds, column, count);
     let t = Between {
         values,
         before: column,

@@ -1,5 +1,5 @@
 -- The cover of a column bounds each of its hulls.
-use Rattle.std.proofs.Common.{◌≡◌, ℕ, zero, suc, ◌+◌, ◌*◌, ◌<◌, ◌≤◌, ◌≤ℤ◌, ◌<ℤ◌, true, false, ℤ, pos, neg_ℤ, Option, None, Some, List, [], ◌∷◌, length, get_or, map, replicate, refl, sym, ap, subst, ◌∙◌, arith}
+use Rattle.std.proofs.Common.{◌≡◌, ℕ, zero, suc, ◌+◌, ◌*◌, ◌<◌, ◌≤◌, ◌≤ℤ◌, ◌<ℤ◌, true, ℤ, pos, neg_ℤ, Option, None, Some, List, [], ◌∷◌, length, get_or, map, refl, sym, ap, subst, ◌∙◌, arith}
 use Rattle.std.proofs.lemmas.Int.{ints}
 use Rattle.std.proofs.lemmas.List.{length-replicate}
 use Rattle.ts_sweep.specs.declared.cover.Cover.{Cover}
@@ -8,17 +8,15 @@ use Rattle.ts_sweep.specs.declared.packed.PackedHull.{PackedHull}
 use Rattle.ts_sweep.specs.Covers.{turned, turned_hull, bound_ends, cover_ends, join_of, nothing_of, join_of_all, IsBounded}
 use Rattle.ts_sweep.specs.Fronts.{ArePlain}
 use Rattle.ts_sweep.specs.FrontLaws.{plain_at}
-use Rattle.ts_sweep.specs.Lanes.{least, no_lanes, greater_of, some_lanes}
-use Rattle.ts_sweep.specs.LaneLaws.{cons_same, lanes_associative, lanes_commutative, lanes_idempotent, lanes_neutral}
+use Rattle.ts_sweep.specs.Lanes.{least, some_lanes}
+use Rattle.ts_sweep.specs.LaneLaws.{cons_same, lanes_associative, lanes_commutative, lanes_idempotent}
 use Rattle.ts_sweep.specs.MoveLaws.{not_nothing}
 use Rattle.ts_sweep.specs.Packed.{ends, ends_in, place, AreSome, AreWithin, IsPacked, IsPlace, IsUnder}
 use Rattle.ts_sweep.specs.PackedLaws.{placed, covered_is_under, length_greater}
 use Rattle.ts_sweep.specs.Sides.{Sides, BothEnds, UpperEnds, LowerEnds, sides, lanes_by, count_by, lane_count, lanes_in, as_read}
-use Rattle.ts_sweep.specs.SidesLaws.{joined_by, none_by, ones_are, packed_are, read_length, upper_read, lower_read, upper_get, lower_get}
+use Rattle.ts_sweep.specs.SidesLaws.{ones_are, packed_are, read_length, upper_read, lower_read, upper_get, lower_get}
 use Rattle.ts_sweep.specs.Sweeps.{total}
 use Rattle.ts_sweep.proofs.CoverSteps.{covered}
-use Rattle.ts_sweep.proofs.Entries.{total_packed}
-use Rattle.ts_sweep.proofs.PairSteps.{nothing_lanes}
 
 -- each lane negated
 
@@ -138,21 +136,3 @@ bounded n f count all other cover big all_is other_is other_long ends_are packed
     subst (λ m. AreWithin 1 (ends_in (as_read s (lanes_by s xs)) (place m k))) (sym (read_length s (lanes_by s xs) ∙ is_some.len))
     (sized_at s n xs all.at other.at (place (count_by s n) k) (placed (count_by s n) k big) (long i lt) all_long other_long is_some under
     turned_under (subst ArePlain (ends_are k) plain))
-
--- where nothing is in the join of all hulls, nothing is in any
-pub none_reached : (n : ℕ) (f : ℕ → PackedHull n) (count : ℕ) → 6 ≤ lane_count n →
-    ((i : ℕ) → i < count → IsPacked (lane_count n) (lanes_in n (f i).at)) → some_lanes (lanes_in n (join_of_all n f count).at) ≡ false → (i : ℕ) →
-    i < count → lanes_in n (f i).at ≡ no_lanes (lane_count n)
-none_reached n f count big packed empty i lt =
-    let s = sides n in
-    let m = lane_count n in
-    let all = join_of_all n f count in
-    let zs = lanes_by s (f i).at in
-    let whole = total_packed (join_of n) (nothing_of n) (λ (h : PackedHull n). lanes_by s h.at) m (λ a b. joined_by s a.at b.at) (none_by s n) big
-    (λ i. true) f count packed in
-    let none : lanes_by s all.at ≡ no_lanes m = nothing_lanes m (lanes_by s all.at) big whole empty in
-    sym (lanes_neutral m zs (packed_are m zs (packed i lt))) ∙ ap (λ ys. greater_of ys zs) (sym none) ∙ sym (joined_by s all.at (f i).at)
-    ∙ ap (λ (h : PackedHull n). lanes_by s h.at)
-    (covered (join_of n) (nothing_of n) (λ a b c. ap (hull_with n) (lanes_associative a.at b.at c.at))
-    (λ a b. ap (hull_with n) (lanes_commutative a.at b.at)) (λ a. ap (hull_with n) (lanes_idempotent a.at)) f count i lt)
-    ∙ none

@@ -1,5 +1,4 @@
-//! The cover of a column: between which numbers its hulls lie, which tells whether sums stay small, and whether any of
-//! them is reached.
+//! The cover of a column: between which numbers its hulls lie, which tells whether sums stay small.
 
 ghost use Rattle.std.specs.Prelude.{◌≡◌, ◌<◌, ◌≤◌, ℕ, ℤ, List, get_or, length, true};
 ghost use Rattle.ts_sweep.specs.Covers.{
@@ -8,12 +7,10 @@ ghost use Rattle.ts_sweep.specs.Covers.{
   bound_ends,
   cover_ends,
   join_of,
-  join_of_all,
   nothing_of,
   turned,
   turned_hull,
 };
-ghost use Rattle.ts_sweep.specs.Lanes.{some_lanes};
 ghost use Rattle.ts_sweep.specs.Packed.{IsPacked, ends_in, place};
 ghost use Rattle.ts_sweep.specs.Sides.{BothEnds, as_read, lane_count, lanes_in, sides};
 
@@ -31,17 +28,10 @@ pub struct Cover {
     pub r: Ends,
 }
 
-/// The cover of a column, and whether registers lie in any of its hulls.
-#[derive(Clone, Copy)]
-pub struct Covered {
-    pub some: bool,
-    pub cover: Cover,
-}
-
 impl Cover {
     /// A cover that bounds no number.
     #[inline(always)]
-    pub(crate) fn greatest() -> Cover
+    pub fn greatest() -> Cover
         ensures { (xs : List ℤ) → IsBounded result xs }
     {
         let e = Ends {
@@ -135,17 +125,15 @@ pub fn cover_of<const N: usize, C: Column<PackedHull<N>>>(
     from: C,
     row: &[C::Item],
     count: usize,
-) -> Covered
+) -> Cover
     requires registers { 6 ≤ lane_count N }
     requires lanes { N ≤ 64 }
     requires whole { C.whole from row.now }
     requires readable { C.readable from row.now }
     requires same { length (C.column from row.now) ≡ count }
-    ensures some { result.some ≡ some_lanes
-        (lanes_in N (join_of_all N (λ i. get_or (C.hulls from row.now) i (nothing_of N)) count).at) }
-    ensures bounds { ((i : ℕ) → i < count →
+    ensures { ((i : ℕ) → i < count →
         IsPacked (lane_count N) (lanes_in N (get_or (C.hulls from row.now) i (nothing_of N)).at)) →
-        IsCoverOf (sides N) (λ h. lanes_in N h.at) (nothing_of N) result.cover count (C.hulls from row.now) }
+        IsCoverOf (sides N) (λ h. lanes_in N h.at) (nothing_of N) result count (C.hulls from row.now) }
 {
     let mut all = PackedHull::<N>::nothing();
     let mut turned = PackedHull::<N>::nothing();
@@ -154,14 +142,11 @@ pub fn cover_of<const N: usize, C: Column<PackedHull<N>>>(
         turned = with_turned(turned, &h);
         all = all.joined(h);
     }
-    Covered {
-        some: all.is_some(),
-        cover: Cover {
-            c: bound(&all, &turned, Name::C),
-            e: bound(&all, &turned, Name::E),
-            d: bound(&all, &turned, Name::D),
-            f: bound(&all, &turned, Name::F),
-            r: bound(&all, &turned, Name::R),
-        },
+    Cover {
+        c: bound(&all, &turned, Name::C),
+        e: bound(&all, &turned, Name::E),
+        d: bound(&all, &turned, Name::D),
+        f: bound(&all, &turned, Name::F),
+        r: bound(&all, &turned, Name::R),
     }
 }

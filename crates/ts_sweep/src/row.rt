@@ -33,7 +33,7 @@ fn row_fits<const N: usize, F: Moves<PackedHull<N>>>(by: F, from: Strided, befor
     if by.is_fit(&Cover::greatest()) {
         return true;
     }
-    by.is_fit(&cover_of::<N, Strided>(from, before, from.count).cover)
+    by.is_fit(&cover_of::<N, Strided>(from, before, from.count))
 }
 
 /// Takes a move of a state into a state of the next row, if its sums stay small.

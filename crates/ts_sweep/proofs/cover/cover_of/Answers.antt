@@ -2,7 +2,6 @@ use Rattle.std.proofs.Common.{◌≡◌, ℕ, get_or, ap, ◌∙◌, rules, arit
 use Rattle.ts_sweep.specs.declared.cover.Cover.{Cover}
 use Rattle.ts_sweep.specs.declared.packed.PackedHull.{PackedHull}
 use Rattle.ts_sweep.specs.Covers.{bound_ends, cover_ends, join_of, nothing_of, turned_hull}
-use Rattle.ts_sweep.specs.Lanes.{some_lanes}
 use Rattle.ts_sweep.specs.MoveLaws.{by_names}
 use Rattle.ts_sweep.specs.Packed.{ends_in, place}
 use Rattle.ts_sweep.specs.Sides.{as_read, lane_count, lanes_in, sides}
@@ -27,13 +26,8 @@ loop-i-preserved g c =
       long = search rules;
     }
 
-pub returns-clause-some : goal.returns-clause-some
-returns-clause-some g c =
-    let n = g.row.N in
-    c.is_some.ensures ∙ ap (λ (h : PackedHull n). some_lanes (lanes_in n h.at)) (covers_all _ _ _ _ _ _ c.loop-i.invariant.all (omega arith))
-
-pub returns-clause-bounds : goal.returns-clause-bounds
-returns-clause-bounds g c =
+pub returns : goal.returns
+returns g c =
     let n = g.row.N in
     let s = sides n in
     let m = lane_count n in

@@ -36,9 +36,9 @@ returns g c =
     let from = c.args.from in
     let hulls = column n c.requires.registers from.states from.state from.count c.args.before.now in
     λ is. all_fit n c.requires.registers fit from.states from.state from.count c.args.before.now
-    c.cover_of.result.cover c.requires.packable
+    c.cover_of.result c.requires.packable
     (subst (λ s. ((i : ℕ) → i < from.count → IsPacked (count_by s n) (lanes_by s (get_or hulls i (nothing_of n)).at)) →
-    IsCoverOf s (λ (h : PackedHull n). lanes_by s h.at) (nothing_of n) c.cover_of.result.cover from.count hulls)
-    (full n c.requires.registers) c.cover_of.ensures.bounds)
-    (subst (λ s. (h : PackedHull n) → IsPacked (count_by s n) (lanes_by s h.at) → IsHullBounded s c.cover_of.result.cover (lanes_by s h.at) → fit h)
+    IsCoverOf s (λ (h : PackedHull n). lanes_by s h.at) (nothing_of n) c.cover_of.result from.count hulls)
+    (full n c.requires.registers) c.cover_of.ensures)
+    (subst (λ s. (h : PackedHull n) → IsPacked (count_by s n) (lanes_by s h.at) → IsHullBounded s c.cover_of.result (lanes_by s h.at) → fit h)
     (full n c.requires.registers) (c.is_fit-2.ensures is))
