@@ -19,7 +19,7 @@ ghost use Rattle.ts_sweep.specs.Sides.{as_read, has_wide, lane_count, sides};
 use crate::between::{Between, On};
 use crate::cell::Cell;
 use crate::emission::Operators;
-use crate::sum_shapes::sweep_sums;
+use crate::sum_shapes::sweep_found;
 use ts_automaton::{Op, Turn};
 use ts_base::Letter;
 use ts_sweep::cover::Cover;
@@ -123,7 +123,7 @@ fn emit<const N: usize>(by: Emission<'_>, on: On, t: &Between<'_, N>, next: &mut
     }
 }
 
-/// Takes in an emission: by the sweep of what it adds where that may be, or else by pairs of values.
+/// Takes in an emission: by the sweep of what it joins R with where that may be, or else by pairs of values.
 fn take_found<const N: usize>(
     by: Emission<'_>,
     on: On,
@@ -140,7 +140,7 @@ fn take_found<const N: usize>(
     ensures packed { IsColumn N (count_in t.now.next_values.now) next.new }
     ensures moved { HasMoved N t.now on (move_of by.entry.turn.now) next.old next.new }
 {
-    if sweep_sums(by, on, t, next) {
+    if sweep_found(by, on, t, next) {
         return;
     }
     emit(by, on, t, next);

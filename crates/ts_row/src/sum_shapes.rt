@@ -1,4 +1,5 @@
-//! Moves that add what is found of two cells to `R`: swept, since a letter says which cell is the greater.
+//! Moves that join `R` with what is found of two cells: swept where a letter says which cell is the greater. They join
+//! it with that cell or the other, or add their difference.
 
 ghost use Rattle.std.specs.Prelude.{◌≡◌, false, true};
 ghost use Rattle.ts_automaton.specs.Body.{move_of};
@@ -21,7 +22,7 @@ use ts_automaton::Op;
 use ts_base::Letter;
 use ts_sweep::front::{Front, High, Join, Low, Register, This};
 use ts_sweep::moves::Parts;
-use ts_sweep::operator::{Minus, Plus};
+use ts_sweep::operator::{Folds, Greater, Lesser, Minus, Plus};
 use ts_sweep::packed::{Packed, PackedHull};
 use ts_sweep::pair_move::Emission;
 use ts_sweep::part::{Part, Tail, Whole};
@@ -58,9 +59,10 @@ fn emitted_as<const N: usize, V: Front, P: Part>(
     sweep_next(parts, on, t, next)
 }
 
-/// Takes in a move that adds the greater of two cells to `R`, or the lesser, by a sweep: which of them it is a letter
-/// says.
-fn add_cell<const N: usize>(
+/// Takes in a move that joins `R` with the greater of two cells, or the lesser, by a sweep: which of them it is a
+/// letter says.
+fn join_cell<const N: usize, O: Folds>(
+    by: O,
     greatest: bool,
     on: On,
     t: &Between<'_, N>,
@@ -70,18 +72,19 @@ fn add_cell<const N: usize>(
     requires next_packed { IsColumn N (count_in t.now.next_values.now) next.old }
     ensures packed { IsColumn N (count_in t.now.next_values.now) next.new }
     ensures taken { result ≡ true → MovesAs N t.now on (emitted_cut (Leaf (start_atom (pair_op greatest)))
-        (split_formula (Joined (Fold Add) (Leaf R) (Leaf (found_atom on.letter greatest))))) next.old next.new }
+        (split_formula (Joined (Fold (O.fold by)) (Leaf R) (Leaf (found_atom on.letter greatest)))))
+        next.old next.new }
     ensures kept { result ≡ false → next.new ≡ next.old }
 {
     let this = Whole {
         front: Join {
-            by: Plus,
+            by,
             left: Register::<4>,
             right: This,
         },
     };
     let next_cell = Tail {
-        by: Plus,
+        by,
         front: Register::<4>,
     };
     match (on.letter, greatest) {
@@ -90,6 +93,52 @@ fn add_cell<const N: usize>(
         (Letter::Greater, true) => emitted_as(Low, this, on, t, next),
         (Letter::Greater, false) => emitted_as(High, next_cell, on, t, next),
         (Letter::Equal, _) => false,
+    }
+}
+
+/// Takes in a move that joins `R` with the greater of two cells, or the lesser, by an operator.
+fn join_by<const N: usize>(
+    ranges: Op,
+    greatest: bool,
+    on: On,
+    t: &Between<'_, N>,
+    next: &mut [PackedHull<N>],
+) -> bool
+    requires covered { IsCovered N t.now }
+    requires next_packed { IsColumn N (count_in t.now.next_values.now) next.old }
+    ensures packed { IsColumn N (count_in t.now.next_values.now) next.new }
+    ensures taken { result ≡ true → MovesAs N t.now on (emitted_cut (Leaf (start_atom (pair_op greatest)))
+        (split_formula (Joined (Fold ranges) (Leaf R) (Leaf (found_atom on.letter greatest))))) next.old next.new }
+    ensures kept { result ≡ false → next.new ≡ next.old }
+{
+    match ranges {
+        Op::Add => join_cell(Plus, greatest, on, t, next),
+        Op::Max => join_cell(Greater, greatest, on, t, next),
+        Op::Min => join_cell(Lesser, greatest, on, t, next),
+    }
+}
+
+/// Takes in an emission of a narrow automaton by a sweep, if it joins `R` with the greater or the lesser cell.
+fn join_found<const N: usize>(
+    by: Emission<'_>,
+    on: On,
+    t: &Between<'_, N>,
+    next: &mut [PackedHull<N>],
+) -> bool
+    requires narrow { has_wide N ≡ false }
+    requires covered { IsCovered N t.now }
+    requires suits { IsMoveFor (sides N) (move_of by.turn.now) }
+    requires made { (move_of by.turn.now).to ≡ emission (has_wide N) by.ranges by.cells }
+    requires fit { AreEmitted N by (count_in t.now.values.now) t.now.before.now }
+    requires next_packed { IsColumn N (count_in t.now.next_values.now) next.old }
+    ensures packed { IsColumn N (count_in t.now.next_values.now) next.new }
+    ensures moved { result ≡ true → HasMoved N t.now on (move_of by.entry.turn.now) next.old next.new }
+    ensures kept { result ≡ false → next.new ≡ next.old }
+{
+    match by.cells {
+        Op::Max => join_by(by.ranges, true, on, t, next),
+        Op::Min => join_by(by.ranges, false, on, t, next),
+        Op::Add => false,
     }
 }
 
@@ -182,9 +231,9 @@ fn add_difference<const N: usize>(
     }
 }
 
-/// Takes in an emission by a sweep, if it adds the greater or the lesser cell to `R`, or their difference, and a letter
-/// says which cell is the greater.
-pub(crate) fn sweep_sums<const N: usize>(
+/// Takes in an emission by a sweep, if it joins `R` with the greater or the lesser cell, or adds their difference, and
+/// a letter says which cell is the greater.
+pub(crate) fn sweep_found<const N: usize>(
     by: Emission<'_>,
     on: On,
     t: &Between<'_, N>,
@@ -200,10 +249,11 @@ pub(crate) fn sweep_sums<const N: usize>(
     ensures moved { result ≡ true → HasMoved N t.now on (move_of by.entry.turn.now) next.old next.new }
     ensures kept { result ≡ false → next.new ≡ next.old }
 {
-    match (by.ranges, by.cells, PackedHull::<N>::is_wide()) {
-        (Op::Add, _, true) => add_difference(by, on, t, next),
-        (Op::Add, Op::Max, false) => add_cell(true, on, t, next),
-        (Op::Add, Op::Min, false) => add_cell(false, on, t, next),
+    if !PackedHull::<N>::is_wide() {
+        return join_found(by, on, t, next);
+    }
+    match by.ranges {
+        Op::Add => add_difference(by, on, t, next),
         _ => false,
     }
 }

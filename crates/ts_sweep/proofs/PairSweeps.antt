@@ -1,4 +1,5 @@
--- Emissions that add what is found: a letter says which of two cells is the greater, so that they make the same as a move that is swept.
+-- Emissions that join R with the cell that is found, or add what is found: a letter says which of two cells is the greater, so that they make the
+-- same as a move that is swept.
 use Rattle.std.proofs.Common.{◌≡◌, ◌⊎◌, inl, inr, ◌≤ℤ◌, ◌+ℤ◌, ◌-ℤ◌, ℕ, ◌<◌, ◌≤◌, ℤ, pos, neg_ℤ, Bool, true, false, cond, int_le, List, get_or, refl, sym, ap, subst, ◌∙◌, arith}
 use Rattle.std.specs.Int.{int_max, int_min}
 use Rattle.std.specs.List.{AllByRecursion}
@@ -7,6 +8,7 @@ use Rattle.std.proofs.lemmas.Int.{ints, clamps}
 use Rattle.ts_base.specs.Numbers.{clamp}
 use Rattle.ts_base.specs.declared.letter.Letter.{Letter}
 use Rattle.ts_base.specs.declared.letter.Letter.TheVariants.{Less, Equal, Greater}
+use Rattle.ts_base.specs.declared.op.Op.{Op}
 use Rattle.ts_base.specs.declared.op.Op.TheVariants.{Add, Max}
 use Rattle.ts_automaton.specs.declared.expr.Atom.TheVariants.{C as AtomC, R as AtomR, This, Next, NegInf as LowAtom, PosInf as HighAtom}
 use Rattle.ts_automaton.specs.declared.expr.Operator.TheVariants.{Fold, Sub}
@@ -83,11 +85,11 @@ cell_is Equal twin false xs v w small is =
     let h : int_le v w ≡ true = (and_parts (int_le w v) (int_le v w) (reach_compares Equal twin v w small ∙ is)).1 in
     ap number_ends (least_this v w (grind (arith, ints, h)))
 
-cell_added : (s : Sides) (l : Letter) (twin greatest : Bool) (xs : List ℤ) (v w : ℤ) → IsBegun s false (pair_op greatest) xs → IsSmall v → IsSmall w →
-    compares l twin v w ≡ true → kept_ends s (tree_value (Join (Fold Add) (Leaf AtomR) (Leaf (found_atom l greatest))) xs v w)
-    ≡ kept_ends s (tree_value (Join (Fold Add) (Leaf AtomR) (pair_found false (pair_op greatest))) xs v w)
-cell_added s l twin greatest xs v w begun sv sw is =
-    kept_joined s Add (name_ends xs R) (tree_value (Leaf (found_atom l greatest)) xs v w) (tree_value (pair_found false (pair_op greatest)) xs v w)
+cell_joined : (s : Sides) (o : Op) (l : Letter) (twin greatest : Bool) (xs : List ℤ) (v w : ℤ) → IsBegun s false (pair_op greatest) xs → IsSmall v →
+    IsSmall w → compares l twin v w ≡ true → kept_ends s (tree_value (Join (Fold o) (Leaf AtomR) (Leaf (found_atom l greatest))) xs v w)
+    ≡ kept_ends s (tree_value (Join (Fold o) (Leaf AtomR) (pair_found false (pair_op greatest))) xs v w)
+cell_joined s o l twin greatest xs v w begun sv sw is =
+    kept_joined s o (name_ends xs R) (tree_value (Leaf (found_atom l greatest)) xs v w) (tree_value (pair_found false (pair_op greatest)) xs v w)
     (ap (kept_ends s) (cell_is l twin greatest xs v w sv is) ∙ found_kept s false (pair_op greatest) xs v w (inr refl) (λ e. cc) begun sv sw)
 
 -- sums of few small numbers aren't clamped
@@ -235,12 +237,12 @@ start_for : (s : Sides) (greatest : Bool) → IsFor s (Leaf (start_atom (pair_op
 start_for s true = narrow_for s (Leaf LowAtom) refl
 start_for s false = narrow_for s (Leaf HighAtom) refl
 
-found_for : (s : Sides) (l : Letter) (greatest : Bool) → IsFor s (Join (Fold Add) (Leaf AtomR) (Leaf (found_atom l greatest)))
-found_for s Less true = narrow_for s (Join (Fold Add) (Leaf AtomR) (Leaf Next)) refl
-found_for s Less false = narrow_for s (Join (Fold Add) (Leaf AtomR) (Leaf This)) refl
-found_for s Equal greatest = narrow_for s (Join (Fold Add) (Leaf AtomR) (Leaf This)) refl
-found_for s Greater true = narrow_for s (Join (Fold Add) (Leaf AtomR) (Leaf This)) refl
-found_for s Greater false = narrow_for s (Join (Fold Add) (Leaf AtomR) (Leaf Next)) refl
+found_for : (s : Sides) (o : Op) (l : Letter) (greatest : Bool) → IsFor s (Join (Fold o) (Leaf AtomR) (Leaf (found_atom l greatest)))
+found_for s o Less true = narrow_for s (Join (Fold o) (Leaf AtomR) (Leaf Next)) refl
+found_for s o Less false = narrow_for s (Join (Fold o) (Leaf AtomR) (Leaf This)) refl
+found_for s o Equal greatest = narrow_for s (Join (Fold o) (Leaf AtomR) (Leaf This)) refl
+found_for s o Greater true = narrow_for s (Join (Fold o) (Leaf AtomR) (Leaf This)) refl
+found_for s o Greater false = narrow_for s (Join (Fold o) (Leaf AtomR) (Leaf Next)) refl
 
 emission_rests : (wide greatest : Bool) (r : Formula) → rests is_zero wide (emission_with wide greatest r) ≡ true
 emission_rests true greatest r = refl
@@ -292,70 +294,73 @@ module _ (s : Sides) (n : ℕ) (alone : (s ≡ BothEnds) ⊎ (is_wide n ≡ fals
         (λ i inside is. alike m m' r r' (lanes (get_or before i nothing)) (v i) (w j) made made' suits suits' (packed.1 i inside) (sv i inside) (sw j lt)
         (λ some. same i j inside lt some is)))
 
--- what is found, added to R, and the cell that is found
-abbrev pub found_added : Bool → Bool → Formula
-found_added wide greatest = Join (Fold Add) (Leaf AtomR) (pair_found wide (pair_op greatest))
+-- R, joined with what is found, and with the cell that is found
+abbrev pub found_joined : Op → Bool → Bool → Formula
+found_joined o wide greatest = Join (Fold o) (Leaf AtomR) (pair_found wide (pair_op greatest))
 
-abbrev pub cell_formula : Letter → Bool → Formula
-cell_formula l greatest = Join (Fold Add) (Leaf AtomR) (Leaf (found_atom l greatest))
+abbrev pub cell_formula : Op → Letter → Bool → Formula
+cell_formula o l greatest = Join (Fold o) (Leaf AtomR) (Leaf (found_atom l greatest))
 
 module _ {X : Type 0} (s : Sides) (lanes : X → List ℤ) (nothing : X) (n : ℕ) (alone : (s ≡ BothEnds) ⊎ (is_wide n ≡ false)) (big : 6 ≤ n) (by : Emission)
-    (greatest : Bool) (cells : by.cells ≡ pair_op greatest) (adds : by.ranges ≡ Add)
+    (greatest : Bool) (o : Op) (cells : by.cells ≡ pair_op greatest) (ranges : by.ranges ≡ o)
     (made : (move_of by.turn.now).to ≡ emission (is_wide n) by.ranges by.cells) (suits : IsMoveFor s (move_of by.turn.now))
     (l : Letter) (twin : Bool) (count : ℕ) (v : ℕ → ℤ) (before : List X) (packed : ArePacked lanes nothing n count before)
     (sv : (i : ℕ) → i < count → IsSmall (v i))
     (fit : (i : ℕ) → i < count → some_lanes (lanes (get_or before i nothing)) ≡ true →
-    IsEmitted s (is_wide n) by (as_read s (lanes (get_or before i nothing)))) (k : ℕ) (w : ℕ → ℤ) (sw : (j : ℕ) → j < k → IsSmall (w j)) (old new : List X) where
+    IsEmitted s (is_wide n) by (as_read s (lanes (get_or before i nothing)))) (k : ℕ) (w : ℕ → ℤ) (sw : (j : ℕ) → j < k → IsSmall (w j))
+    (old new : List X) where
   abbrev pub m : Move
   m = move_of by.turn.now
 
-  adds_found : (wide : Bool) → is_wide n ≡ wide → m.to ≡ emission_with wide greatest (found_added wide greatest)
-  adds_found wide width = made ∙ ap (λ o. emission (is_wide n) o by.cells) adds ∙ ap (λ b. emission b Add by.cells) width
-      ∙ ap (emission wide Add) cells
+  joins_found : (wide : Bool) → is_wide n ≡ wide → m.to ≡ emission_with wide greatest (found_joined o wide greatest)
+  joins_found wide width = made ∙ ap (λ p. emission (is_wide n) p by.cells) ranges ∙ ap (λ b. emission b o by.cells) width
+      ∙ ap (emission wide o) cells
 
   begun_by : (wide : Bool) → is_wide n ≡ wide → (xs : List ℤ) → IsBegun s (is_wide n) by.cells xs → IsBegun s wide (pair_op greatest) xs
   begun_by wide width xs h = subst (λ b. IsBegun s b (pair_op greatest) xs) width (subst (λ o. IsBegun s (is_wide n) o xs) cells h)
 
-  suits_found : (wide : Bool) → is_wide n ≡ wide → IsFor s (found_added wide greatest)
-  suits_found wide width = subst (λ t. IsFor s t.r) (adds_found wide width) suits.1.1.0
+  suits_found : (wide : Bool) → is_wide n ≡ wide → IsFor s (found_joined o wide greatest)
+  suits_found wide width = subst (λ t. IsFor s t.r) (joins_found wide width) suits.1.1.0
 
-  -- in narrow hulls the cell that is found is added
-  pub cell_taken : is_wide n ≡ false → IsMoved s lanes nothing (record { next = 0; to = emission_with false greatest (cell_formula l greatest) })
+  -- in narrow hulls R is joined with the cell that is found
+  pub cell_taken : is_wide n ≡ false → IsMoved s lanes nothing (record { next = 0; to = emission_with false greatest (cell_formula o l greatest) })
       l twin count v before k w old new → IsMoved s lanes nothing m l twin count v before k w old new
   cell_taken width =
       moved_alike s n alone big false greatest width lanes nothing m
-      (record { next = 0; to = emission_with false greatest (cell_formula l greatest) }) (found_added false greatest) (cell_formula l greatest)
-      (adds_found false width) refl (suits_found false width) (found_for s l greatest) l twin count v before packed sv k w sw old new
-      (λ i j inside lt some is. cell_added s l twin greatest (as_read s (lanes (get_or before i nothing))) (v i) (w j)
+      (record { next = 0; to = emission_with false greatest (cell_formula o l greatest) }) (found_joined o false greatest) (cell_formula o l greatest)
+      (joins_found false width) refl (suits_found false width) (found_for s o l greatest) l twin count v before packed sv k w sw old new
+      (λ i j inside lt some is. cell_joined s o l twin greatest (as_read s (lanes (get_or before i nothing))) (v i) (w j)
       (begun_by false width (as_read s (lanes (get_or before i nothing))) (fit i inside some).begun) (sv i inside) (sw j lt) is)
 
   -- in wide ones, on `<`, the next cell, and the cell is taken away
-  pub rise_taken : is_wide n ≡ true → greatest ≡ true → l ≡ Less →
+  pub rise_taken : o ≡ Add → is_wide n ≡ true → greatest ≡ true → l ≡ Less →
       IsMoved s lanes nothing (record { next = 0; to = emission_with true greatest rise_added }) l twin count v before k w old new →
       IsMoved s lanes nothing m l twin count v before k w old new
-  rise_taken width one less =
+  rise_taken adds width one less =
       let both = narrow_or_both s (is_wide n) alone width in
       moved_alike s n alone big true greatest width lanes nothing m (record { next = 0; to = emission_with true greatest rise_added })
-      (found_added true greatest) rise_added (adds_found true width) refl (suits_found true width)
+      (found_joined Add true greatest) rise_added (joins_found true width ∙ ap (λ p. emission_with true greatest (found_joined p true greatest)) adds) refl
+      (subst (λ p. IsFor s (found_joined p true greatest)) adds (suits_found true width))
       (subst (λ z. IsFor z rise_added) (sym both) tt) l twin count v before packed sv k w sw old new
       (λ i j inside lt some is.
       let xs = as_read s (lanes (get_or before i nothing)) in
       let by_one = fit i inside some in
       let begun : IsBegun BothEnds true Max xs =
       subst (λ z. IsBegun z true Max xs) both (subst (λ g. IsBegun s true (pair_op g) xs) one (begun_by true width xs by_one.begun)) in
-      ap (kept_ends s) (rise_is xs (v i) (w j) begun (by_one.small adds) (sv i inside) (sw j lt)
+      ap (kept_ends s) (rise_is xs (v i) (w j) begun (by_one.small (ranges ∙ adds)) (sv i inside) (sw j lt)
       (below_next twin (v i) (w j) (sv i inside) (subst (λ z. compares z twin (v i) (w j) ≡ true) less is))
-      ∙ ap (λ g. tree_value (found_added true g) xs (v i) (w j)) (sym one)))
+      ∙ ap (λ g. tree_value (found_joined Add true g) xs (v i) (w j)) (sym one)))
 
   -- and on `>` the cell, and the next one is taken away
-  pub fall_taken : is_wide n ≡ true → greatest ≡ true → l ≡ Greater →
+  pub fall_taken : o ≡ Add → is_wide n ≡ true → greatest ≡ true → l ≡ Greater →
       IsTurned s lanes nothing (record { next = 0; to = emission_with true true fall_added }) l twin count v before k w old new →
       IsMoved s lanes nothing m l twin count v before k w old new
-  fall_taken width one greater moved j lt =
+  fall_taken adds width one greater moved j lt =
       let both = narrow_or_both s (is_wide n) alone width in
       let m' : Move = record { next = 0; to = emission_with true true fall_added } in
-      let found : m.to ≡ emission_with true true (found_added true true) =
-      adds_found true width ∙ ap (λ g. emission_with true g (found_added true g)) one in
+      let found : m.to ≡ emission_with true true (found_joined Add true true) =
+      joins_found true width ∙ ap (λ p. emission_with true greatest (found_joined p true greatest)) adds
+      ∙ ap (λ g. emission_with true g (found_joined Add true g)) one in
       let any : (r : Formula) → IsFor s r = λ r. subst (λ z. IsFor z r) (sym both) tt in
       moved j lt
       ∙ ap (hull_of_both (hull_at lanes nothing old j)) (turned_alike s m m' l twin count v (hull_at lanes nothing before) (w j)
@@ -372,9 +377,9 @@ module _ {X : Type 0} (s : Sides) (lanes : X → List ℤ) (nothing : X) (n : �
             subst (λ z. IsBegun z true Max zs) both (subst (λ g. IsBegun s true (pair_op g) zs) one (begun_by true width zs by_one.begun)) in
             sym (made_by s n alone big true true width m' fall_added xs (v i) y e refl (any fall_added) (packed.1 i inside) some (sv i inside)
             (turned_small (w j) (sw j lt)) refl)
-            ∙ made_by s n alone big true true width m (found_added true true) xs (v i) (w j) e found (any (found_added true true)) (packed.1 i inside) some
-            (sv i inside) (sw j lt)
-            (ap (kept_ends s) (fall_is zs (v i) (w j) begun (by_one.small adds) (sv i inside) (sw j lt)
+            ∙ made_by s n alone big true true width m (found_joined Add true true) xs (v i) (w j) e found (any (found_joined Add true true))
+            (packed.1 i inside) some (sv i inside) (sw j lt)
+            (ap (kept_ends s) (fall_is zs (v i) (w j) begun (by_one.small (ranges ∙ adds)) (sv i inside) (sw j lt)
             (above_next twin (v i) (w j) (sv i inside) (subst (λ z. compares z twin (v i) (w j) ≡ true) greater is))))
         | false ↦ λ some. sym (moved_nothing s m' n xs (v i) y big (packed.1 i inside) some)
             ∙ moved_nothing s m n xs (v i) (w j) big (packed.1 i inside) some
