@@ -14,7 +14,7 @@ use Rattle.ts_sweep.specs.Here.{here_move}
 use Rattle.ts_sweep.specs.Sides.{sides}
 use Rattle.ts_sweep.proofs.Equals.{moved_here, plain_move}
 
--- it has no twin
+-- a move on `=` has no twin
 pub moved_equal : (n : ℕ) (t : Between n) (on : On) (m : Move) (old new : List (PackedHull n)) → on.letter ≡ Equal →
     IsMoved (sides n) (lanes_of n) (nothing n) m Equal false (count_in t.values.now) (value_in t.values.now) t.before.now (count_in t.next_values.now)
     (value_in t.next_values.now) old new → HasMoved n t on m old new
@@ -24,7 +24,7 @@ moved_equal n t on m old new is moved =
     (subst (λ b. IsMoved (sides n) (lanes_of n) (nothing n) m Equal b (count_in t.values.now) (value_in t.values.now) t.before.now (count_in t.next_values.now)
     (value_in t.next_values.now) old new) (sym (on.alone is)) moved)
 
--- it may be read so, and any other as it is
+-- a move on `=` may read the next cell as the cell; any other move is read as it is
 pub moved_read : (n : ℕ) (t : Between n) (on : On) (m : Move) (old new : List (PackedHull n)) → HasMoved n t on (here_move (is_equal on.letter) m) old new →
     HasMoved n t on m old new
 moved_read n t on m old new moved = go on.letter on.twin on.alone moved

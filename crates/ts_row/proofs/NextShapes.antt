@@ -28,7 +28,7 @@ inside_split Surf = refl
 inside_split Greatest = refl
 inside_split Least = refl
 
--- such moves can be swept, whatever the width
+-- moves whose last operand is the next cell can be swept, whatever the width
 pub longer_swept : (wide : Bool) (o : Op) → all_swept (of_width wide (longer_tails o)) ≡ true
 longer_swept true o = refl
 longer_swept false o = refl

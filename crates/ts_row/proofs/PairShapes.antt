@@ -17,7 +17,7 @@ use Rattle.ts_sweep.specs.Packed.{AreWithin, name_ends}
 use Rattle.ts_sweep.specs.PairMoves.{IsBegun, emission, pair_op}
 use Rattle.ts_sweep.specs.Sides.{as_read, has_wide, sides}
 
--- it serves all hulls of a column whose sums stay small under the cover and in which D and F hold no cell yet
+-- an emission serves all hulls of a column whose sums stay small under the cover and in which D and F hold no cell yet
 pub are_emitted : (n : ℕ) (t : Between n) (by : Emission) → IsCovered n t →
     ((move_of by.turn.now).to ≡ emission (has_wide n) by.ranges by.cells) × (has_wide n ≡ true → by.cells ≡ Max) →
     (by.ranges ≡ Add → (xs : List ℤ) → IsBounded t.cover.now xs → AreWithin 1 (name_ends xs R)) →
@@ -40,7 +40,7 @@ are_begun n by count hulls wide fit i inside some =
     let xs = as_read (sides n) (lanes_of n (get_or hulls i (nothing n))) in
     subst (λ b. IsBegun (sides n) b Max xs) wide (subst (λ cells. IsBegun (sides n) (has_wide n) cells xs) (is.one wide) is.begun)
 
--- and its emission is one of a wide hull
+-- the emission that serves a wide hull is one of wide automata
 pub wide_emission : (to : EachOf Formula) (wide greatest : Bool) (ranges cells : Op) → to ≡ emission wide ranges cells → wide ≡ true →
     cells ≡ Max → ranges ≡ pair_op greatest → to ≡ emission true (pair_op greatest) Max
 wide_emission to wide greatest ranges cells made is one same =

@@ -22,7 +22,7 @@ use Rattle.ts_sweep.proofs.SeenLaws.{seen_both, seen_cond, seen_total}
 use Rattle.ts_sweep.proofs.SeenMoves.{gives_seen}
 
 module _ (s : Sides) (b : Body) (rules : IsTrue (is_automaton b)) (alone : (s ≡ BothEnds) ⊎ (b.wide ≡ false)) (n : ℕ) (v : ℕ → ℤ) (w : ℤ) (t : ℕ) where
-  -- a move of a state
+  -- what is seen of what a move of a state gives
   one_seen : (q : ℕ) (l : Letter) (h : ℕ → Hull) → q < length b.states →
       seen_hull s (gives_to (move_at b q l) l false n v (λ i. seen_hull s (h i)) w t) ≡ seen_hull s (gives_to (move_at b q l) l false n v h w t)
   unfolding move_at
@@ -47,7 +47,7 @@ module _ (s : Sides) (b : Body) (rules : IsTrue (is_automaton b)) (alone : (s �
   unfolding state_gives
   state_seen q h lt = three_seen _ _ _ _ _ _ (one_seen q Less h lt) (one_seen q Equal h lt) (one_seen q Greater h lt)
 
-  -- all states
+  -- what is seen of what all states give
   pub next_seen : (h : ℕ → ℕ → Hull) →
       seen_hull s (next_hull b n v (λ q i. seen_hull s (h q i)) w t) ≡ seen_hull s (next_hull b n v h w t)
   next_seen h =

@@ -96,7 +96,7 @@ shape_is wide s m zero c d r low =
     (rest_same wide m.to.f (made_by s).3 (λ w. (low w).1)) (ap split_formula r) in
     subst (IsShapeOf wide s) (sym (width_cut wide m zero ∙ same)) (shape_made wide s)
 
--- so has a move whose expressions pass tests of them
+-- a move whose expressions pass the tests of a shape has that shape
 pub tested_shape : (wide : Bool) (s : Shape) (m : Move) (c d r low : Bool) → rests is_zero wide m.to ≡ true → (c ≡ true → m.to.c ≡ (made_by s).0) →
     (d ≡ true → m.to.d ≡ (made_by s).2) → (r ≡ true → m.to.r ≡ result_by wide s) →
     (low ≡ true → wide ≡ true → (m.to.e ≡ (made_by s).1) × (m.to.f ≡ (made_by s).3)) → (c && d && r && low) ≡ true → IsShapeOf wide s (cut_of m)

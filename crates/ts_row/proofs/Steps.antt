@@ -19,7 +19,7 @@ use Rattle.ts_sweep.specs.Sides.{lane_count, seen_hull, sides}
 use Rattle.ts_sweep.specs.SidesLaws.{none_by}
 use Rattle.ts_sweep.proofs.SeenLaws.{none_seen, seen_total}
 
--- one after the other
+-- a row that takes in one thing after the other has taken in both
 pub taken_both : (n s k : ℕ) (w : ℕ → ℤ) (f g : ℤ → ℕ → Hull) (a b c : List (List (PackedHull n))) → HasTaken n s k w f a b → HasTaken n s k w g b c →
     HasTaken n s k w (λ x t. hull_of_both (f x t) (g x t)) a c
 taken_both n s k w f g a b c p q t j lt less =
@@ -68,7 +68,7 @@ module _ (n s k r : ℕ) (old : List (List (PackedHull n))) (column : List (Pack
           ∙ ap (hull_of_both (hull_in n old u j)) (sym (none_seen (sides n)))
           ∙ ap (λ b. hull_of_both (hull_in n old u j) (seen_hull (sides n) (cond b x none))) (sym e)
 
--- the states so far
+-- a row has taken in the moves of the states so far
 pub record IsFilled (n : ℕ) (b : Body) (count : ℕ) (v : ℕ → ℤ) (h : ℕ → ℕ → Hull) (k : ℕ) (w : ℕ → ℤ) (q : ℕ) (next : List (List (PackedHull n))) : Type 0 where
   pub row : IsRow n (length b.states) k next
   pub hulls : (t j : ℕ) → t < length b.states → j < k → hull_in n next t j ≡ hull_total q (λ p. seen_gives n b p count v (h p) (w j) t)

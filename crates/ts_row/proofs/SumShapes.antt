@@ -25,12 +25,12 @@ use Rattle.ts_sweep.specs.Sides.{has_wide, lane_count, sides}
 use Rattle.ts_sweep.specs.SidesLaws.{alone}
 use Rattle.ts_sweep.proofs.PairSweeps.{cell_formula, cell_taken, emission_with, fall_added, fall_taken, rise_added, rise_taken}
 
--- such a move can be swept, whatever the width
+-- an emission can be swept, whatever the width, if what becomes of R can be
 pub emitted_swept : (wide : Bool) (d : Formula) (r : Split) → is_swept r ≡ true → all_swept (of_width wide (emitted_cut d r)) ≡ true
 emitted_swept true d r h = h
 emitted_swept false d r h = h
 
--- and is split so
+-- how an emission is split
 emitted_split : (wide greatest : Bool) (r : Formula) →
     cut_of (record { next = 0; to = emission_with wide greatest r }) ≡ of_width wide (emitted_cut (Leaf (start_atom (pair_op greatest))) (split_formula r))
 emitted_split true true r = refl

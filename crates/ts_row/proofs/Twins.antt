@@ -38,7 +38,7 @@ twin_is m l n v h w u =
     (λ i lt. sym (twin_gives (x i) l (g i) u))
     ∙ total_join n (λ i. cond (same_letter (x i) l) (g i) none) (λ i. cond (same_letter (x i) Equal) (g i) none)
 
--- to a state
+-- what a move with a twin gives to a state
 pub twin_to : (m : Move) (l : Letter) (n : ℕ) (v : ℕ → ℤ) (h : ℕ → Hull) (w : ℤ) (t : ℕ) → same_letter l Equal ≡ false →
     gives_to m l true n v h w t ≡ hull_of_both (gives_to m l false n v h w t) (gives_to m Equal false n v h w t)
 twin_to m l n v h w t u =

@@ -55,7 +55,7 @@ pub move_rests : (b : Body) → IsTrue (is_automaton b) → (q : ℕ) (l : Lette
     rests is_zero b.wide u.to ≡ true
 move_rests b a q l h u e = (and_parts (each_is (is_expression b.wide) u.to) (rests is_zero b.wide u.to) (move_formed b a q l h u e)).1
 
--- in a narrow automaton they are narrow
+-- the expressions of a narrow automaton are narrow
 narrow_expression : (wide : Bool) (f : Formula) → wide ≡ false → is_expression wide f ≡ true → is_narrow f ≡ true
 narrow_expression wide f narrow h =
     ap (λ w. w || is_narrow f) (sym narrow) ∙ (and_parts (is_short f) (is_of wide f) h).1

@@ -43,7 +43,7 @@ words_formula (Two o a b) = Join (Fold o) (Leaf a) (Leaf b)
 words_formula (Three o a p b c) = Join (Fold o) (Leaf a) (Join (Fold p) (Leaf b) (Leaf c))
 words_formula (Again o a b c) = Join (Fold o) (Join (Fold o) (Leaf a) (Leaf b)) (Leaf c)
 
--- of a fold of cells: the operator, what a cell is worth, and the word that it begins with
+-- the operator of a fold of cells, what a cell is worth in it, and the word that it begins with
 abbrev pub cell_op : CellFold → Op
 cell_op Ones = Max
 cell_op Width = Add
@@ -180,7 +180,7 @@ made_by (InsideNext f) = (
 )
 made_by Other = (Leaf C, Leaf E, Leaf D, Leaf F)
 
--- and of R: it may be joined with what was found or is held
+-- what a shape says of the expression of R, which may be joined with what was found or is held
 abbrev pub result_by : Bool → Shape → Formula
 result_by wide (Ended g f) = Join (Fold (range_op g)) (Leaf R) (found_of wide (Fold (cell_op f)) (cell_word f))
 result_by wide (Anew g f) = Join (Fold (range_op g)) (Leaf R) (held_of wide)
@@ -188,7 +188,7 @@ result_by wide (EndedTwice g f) =
     Join (Fold (range_op g)) (Leaf R) (found_twice_of wide (Fold (cell_op f)) (cell_word f))
 result_by wide _ = Leaf R
 
--- what it says of the split expressions of a move: they are fronts, but where the next cell is read
+-- what a shape says of the split expressions of a move: they are fronts, but where the next cell is read
 abbrev pub IsShapeOf : Bool → Shape → Cut → Type 0
 IsShapeOf wide (LongerNext f) k = k ≡ of_width wide (longer_tails (cell_op f))
 IsShapeOf wide (FoundNext f) k =

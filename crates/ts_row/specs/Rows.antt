@@ -27,15 +27,15 @@ lanes_of n h = lanes_in n h.at
 abbrev pub IsHull : (n : ℕ) → Hull → PackedHull n → Type 0
 IsHull n h packed = IsPacked (lane_count n) (lanes_of n packed) × (unpacked (lanes_of n packed) ≡ seen_hull (sides n) h)
 
--- one hull so many times
+-- `count` copies of one hull
 abbrev pub AreAll : (n : ℕ) → PackedHull n → (count : ℕ) → List (PackedHull n) → Type 0
 AreAll n hull count hulls = (length hulls ≡ count) × ((i : ℕ) → i < count → get_or hulls i (nothing n) ≡ hull)
 
--- so many packed hulls
+-- `count` packed hulls
 abbrev pub IsColumn : (n count : ℕ) → List (PackedHull n) → Type 0
 IsColumn n count hulls = ArePacked (lanes_of n) (nothing n) (lane_count n) count hulls
 
--- a column of so many packed hulls for each of so many states
+-- a column of `count` packed hulls for each state
 pub record IsRow (n states count : ℕ) (row : List (List (PackedHull n))) : Type 0 where
   pub len : length row ≡ states
   pub columns : (q : ℕ) → q < states → IsColumn n count (get_or row q [])
@@ -45,7 +45,7 @@ abbrev pub columns_in : {X : Type 0} → (states stride count : ℕ) → List X 
 columns_in states stride count xs =
     map (λ q. slice_range xs (q * stride) (q * stride + count)) (range_with_len 0 states)
 
--- a row of hulls of nothing, so many for each of so many states
+-- a row of hulls of nothing, `count` for each state
 pub record IsCleared (n states count : ℕ) (row : List (List (PackedHull n))) : Type 0 where
   pub len : length row ≡ states
   pub columns : (q : ℕ) → q < states → AreAll n (nothing n) count (get_or row q [])
@@ -58,7 +58,7 @@ columns_part from to columns = map (λ column. slice_range column from to) colum
 abbrev pub hull_in : (n : ℕ) → List (List (PackedHull n)) → ℕ → ℕ → Hull
 hull_in n row q i = unpacked (lanes_of n (get_or (get_or row q []) i (nothing n)))
 
--- all of them in a list, value by value, for each a hull of each state
+-- all hulls of a row in a list: value by value, one of each state
 unfoldable pub flat_row : (n states count : ℕ) → List (List (PackedHull n)) → List Hull
 flat_row n states count row =
     flat_map (λ i. map (λ q. hull_in n row q i) (range_with_len 0 states)) (range_with_len 0 count)
@@ -79,7 +79,7 @@ state_gives b q n v h w t =
     (gives_to (move_at b q Equal) Equal false n v h w t))
     (gives_to (move_at b q Greater) Greater false n v h w t)
 
--- what is seen of it
+-- what is seen of what the moves of state q give
 abbrev pub seen_gives : (n : ℕ) → Body → ℕ → ℕ → (ℕ → ℤ) → (ℕ → Hull) → ℤ → ℕ → Hull
 seen_gives n b q k v h w t = seen_hull (sides n) (state_gives b q k v h w t)
 

@@ -40,11 +40,11 @@ HasMoved n t on m old new =
 abbrev pub MovesBy : (n : ℕ) → Between n → On → Cut → List (PackedHull n) → List (PackedHull n) → Type 0
 MovesBy n t on k old new = (m : Move) → cut_of m ≡ k → HasMoved n t on m old new
 
--- with these where registers have lanes
+-- a column has taken in any move with these split expressions, as far as registers have lanes
 abbrev pub MovesAs : (n : ℕ) → Between n → On → Cut → List (PackedHull n) → List (PackedHull n) → Type 0
 MovesAs n t on k old new = MovesBy n t on (of_width (has_wide n) k) old new
 
--- with the next cell negated
+-- a column has taken in any move with these split expressions, where the next cell is negated
 abbrev pub TurnsAs : (n : ℕ) → Between n → On → Cut → List (PackedHull n) → List (PackedHull n) → Type 0
 TurnsAs n t on k old new =
     (m : Move) → cut_of m ≡ of_width (has_wide n) k →
@@ -68,11 +68,11 @@ taken_to n t on m w u =
     seen_hull (sides n) (gives_to m on.letter on.twin (count_in t.values.now) (value_in t.values.now)
     (hull_at (lanes_of n) (nothing n) t.before.now) w u)
 
--- what two moves give to it
+-- what is seen of what two moves give to state u of the next value w
 abbrev pub two_taken_to : (n : ℕ) → Between n → On → Move → On → Move → ℤ → ℕ → Hull
 two_taken_to n t on m on' m' w u = hull_of_both (taken_to n t on m w u) (taken_to n t on' m' w u)
 
--- an emission serves each of so many hulls of a column in which registers lie
+-- an emission serves each hull, of the first `count` of a column, in which registers lie
 abbrev pub AreEmitted : (n : ℕ) → Emission → ℕ → List (PackedHull n) → Type 0
 AreEmitted n by count hulls =
     (i : ℕ) → i < count → some_lanes (lanes_of n (get_or hulls i (nothing n))) ≡ true →

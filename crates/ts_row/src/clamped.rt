@@ -9,7 +9,7 @@ use ts_sweep::tree::AnyOperator;
 #[derive(Clone, Copy)]
 pub(crate) struct ClampedPlus;
 
-/// The first less the second, clamped.
+/// The first operand less the second, clamped.
 #[derive(Clone, Copy)]
 pub(crate) struct ClampedMinus;
 

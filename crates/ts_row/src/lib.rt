@@ -2,8 +2,8 @@
 //! value of the cell.
 //!
 //! A row is made from the row before, state by state: the moves of a state are taken in from its column into the
-//! columns that they lead to. How each move is taken in is worked out once for an automaton, its `Plan`. A row is read
-//! through a `RowView`, at all of its places or at some.
+//! columns that they lead to. How each move is taken in is worked out once for an automaton, as its `Plan`. A row is
+//! read through a `RowView`, at all of its places or at some.
 //!
 //! ```text
 //!   row before                 plan of state 1             next row

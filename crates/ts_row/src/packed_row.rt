@@ -145,7 +145,7 @@ fn column_at<const N: usize>(
     &hulls[from..from + count]
 }
 
-/// Puts copies of a hull in the place of the first `count`.
+/// Puts copies of a hull in the place of the first `count` hulls.
 fn fill_first<const N: usize>(hulls: &mut [PackedHull<N>], count: usize, first: PackedHull<N>)
     requires { count ≤ length hulls.old }
     ensures { hulls.new ≡ replicate count first.entry ++ drop count hulls.old }
@@ -153,7 +153,7 @@ fn fill_first<const N: usize>(hulls: &mut [PackedHull<N>], count: usize, first: 
     hulls[..count].fill(first);
 }
 
-/// Moves the hulls of a state from place `to` on down to place `from`. It has `count` hulls.
+/// Moves the hulls of a state, of which there are `count`, from place `to` on down to place `from`.
 fn move_down<const N: usize>(
     hulls: &mut Vec<PackedHull<N>>,
     q: u8,

@@ -293,7 +293,7 @@ fn take_state<const N: usize>(
 }
 
 /// The row of a cell, made from the row of the cell before in the memory of `next`: the hull of each state and value is
-/// what is seen of what all states and values before give. After `Memory` the row `next` holds whatever hulls.
+/// what is seen of what all states and values before give. After `Memory` the hulls of `next` are unspecified.
 pub fn next_row<const N: usize>(
     alloc: Global,
     a: &Automaton,

@@ -59,7 +59,7 @@ fn packed_start<const N: usize>(regs: Regs) -> PackedHull<N>
 }
 
 /// Makes of `row` that of a cell with `count` values at which runs start, in the same memory: what is seen of the start
-/// registers in the start state, and nothing in the others. After `Memory` it holds whatever hulls.
+/// registers in the start state, and nothing in the others. After `Memory` its hulls are unspecified.
 pub fn start_row<const N: usize>(
     alloc: Global,
     a: &Automaton,

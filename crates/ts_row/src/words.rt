@@ -37,7 +37,7 @@ fn word_of(e: &Expr, equal: bool) -> Option<Atom>
     }
 }
 
-/// The operator and the two words that an expression is. It is no difference.
+/// The operator and the two words that an expression is, if it has two words and is no difference.
 fn two_of(e: &Expr, equal: bool) -> Option<(Op, Atom, Atom)>
     ensures { IfSome result (λ p. read equal e.now ≡ Join (Fold p.0) (Leaf p.1) (Leaf p.2)) }
 {

@@ -1,4 +1,4 @@
--- A move that is taken in by a sweep, told by what packed hulls stand for.
+-- A move that is taken in by a sweep, stated by what packed hulls stand for.
 use Rattle.std.proofs.Common.{◌≡◌, ℕ, ◌<◌, ◌≤◌, Bool, true, cond, ℤ, List, length, get_or, sym, ap, ◌∙◌, arith}
 use Rattle.ts_base.specs.declared.letter.Letter.{Letter}
 use Rattle.ts_automaton.specs.declared.regs.Hull.{Hull}
@@ -47,7 +47,7 @@ module _ {X : Type 0} (both : X → X → X) (nothing : X) (lanes : X → List �
     (closable_front : (h : X) (v : ℤ) → fit h → IsSmall v → closable (front h v))
     (front_is : (h : X) (v : ℤ) → fit h → IsSmall v → IsFrontOf s (cut_of m) n (lanes h) v (lanes (front h v)))
     (closing_is : (h : X) (w : ℤ) → closable h → IsSmall w → IsClosingOf s (cut_of m) n (lanes h) w (lanes (closing h w))) where
-  -- by what it gives
+  -- a column that took in the closed hulls of fronts has taken in what the move gives
   gives_moved : ((h : X) → IsPacked n (lanes h) → both h nothing ≡ h) → (l : Letter) (twin : Bool) (count k : ℕ) (before old new : List X)
       (value next : ℕ → ℤ) →
       ((w : ℤ) → IsSmall w → closed_hull (cut_of m)
@@ -82,7 +82,7 @@ module _ {X : Type 0} (both : X → X → X) (nothing : X) (lanes : X → List �
       gives_moved takes l twin count k before old new value next (λ w small. gives_whole m l twin count value (hull_at lanes nothing before) w whole) long fits
       small_values small_next packed taken
 
-  -- where the next cell may stand in the move, of small hulls
+  -- a column of small hulls has taken in a move in which the next cell may stand
   pub small_moved : ((h : X) → IsPacked n (lanes h) → both h nothing ≡ h) → (l : Letter) (twin : Bool) (count k : ℕ) (before old new : List X)
       (value next : ℕ → ℤ) → all_swept (cut_of m) ≡ true → ((i : ℕ) → i < count → small_hull (hull_at lanes nothing before i) ≡ true) →
       length before ≡ count → ((i : ℕ) → i < count → fit (get_or before i nothing)) → ((i : ℕ) → i < count → IsSmall (value i)) →

@@ -52,7 +52,7 @@ after_here m h v =
     (same_each (value_here spans s v m.to.c) (value_here spans s v m.to.e) (value_here spans s v m.to.d) (value_here spans s v m.to.f)
     (value_here spans s v m.to.r))
 
--- only equal values compare so
+-- only equal values compare by `=`
 equal_values : (v w : ℤ) → same_letter (letter_of v w) Equal ≡ true → w ≡ v
 equal_values v w h = go (int_lt v w) refl h
   where
@@ -74,14 +74,14 @@ gives_here : (m : Move) (n : ℕ) (v : ℕ → ℤ) (h : ℕ → Hull) (w : ℤ)
 unfolding gives
 gives_here m n v h w = total_same n _ _ (λ i lt. pair_here m (h i) (v i) w (same_letter (letter_of (v i) w) Equal) refl)
 
--- a column that has taken in the one has taken in the other
+-- a column that has taken in the move that reads the next cell as the cell has taken in the move itself
 pub moved_here : {X : Type 0} (s : Sides) (lanes : X → List ℤ) (nothing : X) (m : Move) (n : ℕ) (v : ℕ → ℤ) (before : List X) (k : ℕ) (w : ℕ → ℤ)
     (old new : List X) → IsMoved s lanes nothing (here_move true m) Equal false n v before k w old new →
     IsMoved s lanes nothing m Equal false n v before k w old new
 moved_here s lanes nothing m n v before k w old new moved j lt =
     moved j lt ∙ ap (λ z. hull_of_both (hull_at lanes nothing old j) (seen_hull s z)) (gives_here m n v (hull_at lanes nothing before) (w j))
 
--- nothing of it reads the next cell
+-- a word that reads the next cell as the cell doesn't read the next cell
 front_word : (a : Atom) → not (is_next_word (here_word true a)) ≡ true
 front_word C = refl
 front_word E = refl
@@ -102,7 +102,7 @@ front_here (Join o f g) = ap (λ z. z && is_front (here_formula true g)) (front_
 pub fronts_here : (m : Move) → is_front_move (here_move true m) ≡ true
 fronts_here m = five_true _ _ _ _ _ (front_here m.to.c) (front_here m.to.e) (front_here m.to.d) (front_here m.to.f) (front_here m.to.r)
 
--- it has 0 where the move has
+-- a word that reads the next cell as the cell is 0 where the word is
 zero_word : (equal : Bool) (a : Atom) → is_zero (Leaf (here_word equal a)) ≡ is_zero (Leaf a)
 zero_word equal C = refl
 zero_word equal E = refl

@@ -16,13 +16,13 @@ module _ {X : Type 0} (both : X → X → X) (none : X) (assoc : (a b c : X) →
   swap : (a b c : X) → both (both a b) c ≡ both (both a c) b
   swap a b c = assoc a b c ∙ ap (both a) (comm b c) ∙ sym (assoc a c b)
 
-  -- up, it doesn't matter how many values there are
+  -- what a sweep up gathers doesn't depend on how many values there are
   up_same : (n m c : ℕ) → gathered both none true f n c ≡ gathered both none true f m c
   unfolding gathered
   up_same n m zero = refl
   up_same n m (suc c) = ap (λ x. both x (f c)) (up_same n m c)
 
-  -- down, one value more at the end comes first
+  -- in a sweep down, one more value at the end comes first
   down_more : (n c : ℕ) → c ≤ n → gathered both none false f (suc n) (suc c) ≡ both (gathered both none false f n c) (f n)
   unfolding gathered
   down_more n zero h = let e : suc n - suc zero ≡ n = omega arith in ap (λ k. both none (f k)) e
@@ -73,7 +73,7 @@ module _ {X : Type 0} (both : X → X → X) (none : X) (assoc : (a b c : X) →
       same : (i c : ℕ) → nat_lt (suc i) (suc c) ≡ nat_lt i c
       same i c = grind arith
 
-  -- in both directions
+  -- what is gathered is the total by value, in both directions
   pub gathered_total : (up : Bool) (test : ℕ → Bool) (n c : ℕ) → c ≤ n → ((i : ℕ) → i < n → test (step_place up n i) ≡ nat_lt i c) →
       total both none test f n ≡ gathered both none up f n c
   gathered_total true test n c h t = up_total test n c h t

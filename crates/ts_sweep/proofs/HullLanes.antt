@@ -88,7 +88,7 @@ zeros_some n = record {
       (same_ends _ _ _ _ (get_or-replicate n (2 * r) (pos 0) (pos 0) (omega (arith, lt))) (get_or-replicate n (2 * r + 1) (pos 0) (pos 0) lt));
 }
 
--- so with an end beside each
+-- lanes of 0, with an end beside each, hold a register at each place
 
 zero_at : (n k : ℕ) → least <ℤ get_or (replicate n (pos 0)) k (pos 0)
 zero_at zero k = zero_above
@@ -143,7 +143,7 @@ hull_packs n h p some F = go (is_wide n) refl
     go false e = (p.rests e some).1
 hull_packs n h p some R = span_packs h.r (small_spans h p.small).4 (registers_parts (spans_of h) some).4
 
--- its lanes
+-- the lanes of a hull in which registers lie
 abbrev some_of : ℕ → Hull → List ℤ
 some_of n h = with_all n (replicate n (pos 0)) (hull_ends h)
 

@@ -107,7 +107,7 @@ module _ {X Y : Type 0} (both : X → X → X) (taking : Y → X → Y) (none : 
         column = is.column;
       }
 
-  -- those that are not passed at a next value are all from place `at` on
+  -- the values that are not passed at a next value are all from place `at` on
   rest : (at k : ℕ) → at ≤ n → ((i j : ℕ) → i < j → j < n → value i <ℤ value j) →
       ((i : ℕ) → i < at → passes up twin (value (step_place up n i)) (next_value (step_place up m k)) ≡ true) →
       (at < n → passes up twin (value (step_place up n at)) (next_value (step_place up m k)) ≡ false) → (i : ℕ) → i < n →
@@ -167,7 +167,7 @@ module _ {X Y : Type 0} (both : X → X → X) (taking : Y → X → Y) (none : 
             sym (place_place up m k' lt') ∙ ap (step_place up m) (same_place ∙ ej) ∙ place_place up m k lt in e (omega (arith, back)))));
       }
 
-  -- the same by what the calls of a step say: of a length that is n, and of w as it was passed
+  -- a step that passes a value, by what its calls say: of a length that is n, and of w as it was passed
   pub merge_took : (len at k i : ℕ) (w : ℤ) (run run' : X) (old new : List Y) →
       IsMergedTo both taking none blank up twin front closing hulls value next_value n m at k run old new → n ≡ len → IsSmall w → at < len →
       i ≡ step_place up n at →

@@ -152,7 +152,7 @@ narrow_found LowerEnds Max xs x y begun h k =
 narrow_found LowerEnds Min xs x y begun h k =
     ap (λ z. ends z (filled z)) (least_below x y h k ∙ ap (λ d. int_max (int_max d.below (neg_ℤ x)) (neg_ℤ y)) (sym begun.0))
 
--- and a wide one
+-- what a wide move finds
 wide_found : (xs : List ℤ) (x y : ℤ) → IsBegun BothEnds true Max xs → IsSmall x → IsSmall y →
     found_ends true Max x y ≡ tree_value (pair_found true Max) xs x y
 wide_found xs x y begun h k =
@@ -244,7 +244,7 @@ reach_compares Equal twin v w h =
 reach_compares Greater false v w h = and_true (int_le (w +ℤ pos 1) v) _ (below_most v h) ∙ le_after v w ∙ passes_is false false v w
 reach_compares Greater true v w h = and_true (int_le w v) _ (below_most v h) ∙ passes_is false true v w
 
--- what is so of those before, and of one more
+-- what holds of each number before i, and of i, holds of each number before i + 1
 pub so_far : (P : ℕ → Type 0) (i : ℕ) → ((k : ℕ) → k < i → P k) → P i → (k : ℕ) → k < i + 1 → P k
 so_far P i rest here k lt = elim (before_or k i (omega (arith, lt))) [ inl less ↦ rest k less | inr same ↦ subst P (sym same) here ]
 

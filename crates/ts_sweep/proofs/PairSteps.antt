@@ -58,7 +58,7 @@ beside_packs s true p f e h x y alone pack zero =
     let both = narrow_or_both s true alone refl in both_kept s e (span_in f h x y) both (pack (both_for s f both))
 beside_packs s false p f e h x y alone pack zero = sym (ap (λ g. span_in g h x y) (zero_only f (zero refl)))
 
--- and of a hull in lanes what is seen of what its expressions make of it
+-- a move makes of a hull in lanes what is seen of what its expressions make of the hull
 pub moved_some : (s : Sides) (m : Move) (n : ℕ) (xs zs : List ℤ) (x y : ℤ) (c e d f r : Ends) → (s ≡ BothEnds) ⊎ (is_wide n ≡ false) →
     6 ≤ n → rests is_zero (is_wide n) m.to ≡ true → IsMoveFor s m → IsPacked n xs →
     some_lanes xs ≡ true → IsSmall x → IsSmall y →

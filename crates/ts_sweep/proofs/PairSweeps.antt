@@ -70,7 +70,7 @@ least_next v w h = grind (arith, ints)
 least_this : (v w : ℤ) → v ≤ℤ w → v ≡ int_min v w
 least_this v w h = grind (arith, ints)
 
--- so which of them is found
+-- which of two cells that compare is found
 
 cell_is : (l : Letter) (twin greatest : Bool) (xs : List ℤ) (v w : ℤ) → IsSmall v → compares l twin v w ≡ true →
     tree_value (Leaf (found_atom l greatest)) xs v w ≡ found_ends false (pair_op greatest) v w
@@ -155,7 +155,7 @@ fallen_above x v w h =
     let plain : ((x +ℤ v) +ℤ neg_ℤ w) ≡ x +ℤ (v -ℤ w) = omega (arith, ints) in
     plain ∙ ap (λ z. x +ℤ (z -ℤ w)) (most_this v w h) ∙ ap (λ z. x +ℤ (int_max v w -ℤ z)) (least_next v w h)
 
--- of two that fall too, where the next one is negated
+-- the difference of two cells that fall is added cell by cell, where the next one is negated
 
 fall_below : (x v w : ℤ) → IsWithin 1 x → IsSmall v → IsSmall w → w ≤ℤ v →
     sum_below (sum_below x (neg_ℤ v)) (neg_ℤ (neg_ℤ w)) ≡ sum_below x (int_min v w -ℤ int_max v w)

@@ -38,7 +38,7 @@ module _ (n : ℕ) (big : 6 ≤ n) where
   abbrev nothing : PackedHull n
   nothing = of_lanes (no_lanes n)
 
-  -- the hulls of the state q of s at so many values
+  -- the hulls of the state q of s at n values
   abbrev pub column : ℕ → ℕ → ℕ → List Hull → List (PackedHull n)
   column s q count row = map (packed_at n s q row) (range_with_len 0 count)
 

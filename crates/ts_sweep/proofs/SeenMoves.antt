@@ -95,7 +95,7 @@ move_seen s wide m h x y alone suits width = go (some_hull h) refl
         ap (seen_hull s) (after_is m (seen_hull s h) x y false (same_registers s h false e))
         ∙ sym (ap (seen_hull s) (after_is m h x y false e))
 
--- what it gives from all values
+-- what is seen of what a move gives from all values
 pub gives_seen : (s : Sides) (wide : Bool) (m : Move) (l : Letter) (twin : Bool) (n : ℕ) (v : ℕ → ℤ) (h : ℕ → Hull) (w : ℤ) →
     (s ≡ BothEnds) ⊎ (wide ≡ false) → IsMoveFor s m → rests is_zero wide m.to ≡ true →
     seen_hull s (gives m l twin n v (λ i. seen_hull s (h i)) w) ≡ seen_hull s (gives m l twin n v h w)

@@ -25,7 +25,7 @@ and_true : (b : Bool) → (b && true) ≡ b
 and_true true = refl
 and_true false = refl
 
--- of what is seen the end that is kept tells
+-- a span of which only one end is seen is small where that end is
 seen_small : (s : Sides) (e : Ends) → seen s (ends_span e) ≡ ends_span e → small_span (ends_span (read_ends s e)) ≡ small_span (ends_span e)
 seen_small BothEnds e is = refl
 seen_small UpperEnds e is = go (has_some (ends_span e)) refl
@@ -54,7 +54,7 @@ small_at : (s : Sides) (xs : List ℤ) (p : ℕ) → seen s (register_span xs p)
     small_span (ends_span (ends_in (as_read s xs) (Some p))) ≡ small_span (register_span xs p)
 small_at s xs p is = ap (λ e. small_span (ends_span e)) (read_in s xs (Some p)) ∙ seen_small s (ends_at xs p) is
 
--- of E and F all is read in wide lanes, of which both ends are kept
+-- E and F are read whole in wide lanes, of which both ends are kept
 small_beside : (s : Sides) (xs : List ℤ) (o : Option ℕ) → (s ≡ BothEnds) ⊎ (o ≡ None) →
     small_span (ends_span (ends_in (as_read s xs) o)) ≡ small_span (span_in_lanes xs o)
 small_beside s xs None alone = ap (λ e. small_span (ends_span e)) (read_in s xs None) ∙ zeros s ∙ rests_small (has_some (register_span xs 0))
@@ -71,7 +71,7 @@ small_beside s xs (Some p) (inr e) = cc
 five_same : {a b c d e a' b' c' d' e' : Bool} → a ≡ a' → b ≡ b' → c ≡ c' → d ≡ d' → e ≡ e' → (a && b && c && d && e) ≡ (a' && b' && c' && d' && e')
 five_same p q r s t = cc
 
--- by the number of lanes
+-- whether lanes are small, by their number
 abbrev small_with : ℕ → List ℤ → Bool
 small_with n xs =
     small_span (ends_span (ends_in xs (place n C))) && small_span (ends_span (ends_in xs (place n E)))

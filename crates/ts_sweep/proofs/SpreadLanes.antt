@@ -64,7 +64,7 @@ three_none n wide =
     ap (λ xs. with_ends_at (with_ends_at xs 3 no_ends) 4 no_ends) (with_none n 2 (omega (arith, ten)))
     ∙ ap (λ xs. with_ends_at xs 4 no_ends) (with_none n 3 (omega (arith, ten))) ∙ with_none n 4 (omega (arith, ten))
 
--- so it is where C and E are replaced by their own ends
+-- lanes whose C and E are replaced by their own ends have other ends of D, F and R alone
 five : (b : Bool) (xs : List ℤ) (d f r : Ends) → b ≡ true →
     with_ends_in (with_ends_in (with_ends_in (with_ends_in (with_ends_in xs (place_in b C) (ends_in xs (place_in b C))) (place_in b E)
     (ends_in xs (place_in b E))) (place_in b D) d) (place_in b F) f) (place_in b R) r ≡ three_at xs d f r
@@ -114,7 +114,7 @@ module _ (test some run : ℕ → Bool) (begun : run 0 ≡ false) (count : ℕ)
         ap (λ z. cond (test i) (max_ends z (cond (some i) c no_ends)) z) (const_total i (omega (arith, lt)))
         ∙ each_step (test i) (run i) (some i) ∙ ap (λ z. cond z c no_ends) (sym (more i (omega (arith, lt))))
 
-  -- nothing of no hull
+  -- the total over no hull is nothing
   pub none_total : (x : ℕ → Ends) (i : ℕ) → i ≤ count → run i ≡ false → total max_ends no_ends test (λ k. cond (some k) (x k) no_ends) i ≡ no_ends
   unfolding total
   none_total x zero lt e = refl

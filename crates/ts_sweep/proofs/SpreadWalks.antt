@@ -72,7 +72,7 @@ module _ (up : Bool) (test : ℕ → Bool) (f : ℕ → ℤ) (n : ℕ) where
         ];
       }
 
-  -- it ends where there is enough, or where no later value gives more
+  -- a walk ends where there is enough, or where no later value gives more
   pub walk_end : (k : ℕ) (found most : ℤ) → IsWalked up test f n k found →
       (most ≤ℤ found) ⊎ ((q : ℕ) → q < n → k ≤ q → test (step_place up n q) ≡ true → f (step_place up n q) ≤ℤ found) →
       int_min found most ≡ int_min (total int_max least test f n) most

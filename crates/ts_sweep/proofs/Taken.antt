@@ -26,7 +26,7 @@ module _ {X : Type 0} (both : X → X → X) (none : X) where
       each = λ j lt takes. is.each j lt takes ∙ ap (taking (get_or old j blank)) (same j lt);
     }
 
-    -- of the same values
+    -- a sweep over values that are the same takes in the same
     pub runs_as : (up twin : Bool) (front closing : X → ℤ → X) (hulls : List X) (value value' next next' : ℕ → ℤ) (old new : List Y) →
         ((i : ℕ) → i < length hulls → value i ≡ value' i) → ((j : ℕ) → j < length old → next j ≡ next' j) →
         IsTakenIn taking none blank (λ j. closing (passed_hull both none up twin front hulls value (next j)) (next j)) old new →
@@ -40,7 +40,7 @@ module _ {X : Type 0} (both : X → X → X) (none : X) where
         (λ i. front (get_or hulls i none) (value' i)) (length hulls) (λ i less. ap (λ v. passes up twin v (next' j)) (same i less))
         (λ i less. ap (front (get_or hulls i none)) (same i less))))
 
-    -- by another test that decides alike
+    -- a sweep whose test decides alike takes in the same
     tests_as : (test test' : ℤ → ℤ → Bool) (front closing : X → ℤ → X) (hulls : List X) (value next : ℕ → ℤ) (old new : List Y) →
         ((v w : ℤ) → test v w ≡ test' v w) →
         IsTakenIn taking none blank

@@ -40,7 +40,7 @@ pub above_numbers : (x y : ℤ) → negsuc 9223372036854775806 <ℤ x → x <ℤ
 above_numbers x y a b c d =
     sym (ap (λ e. lane_of (ext_plus e (upper y))) (upper_mid x a b) ∙ ap (λ e. lane_of (ext_plus (Int x) e)) (upper_mid y c d))
 
--- and of lower ones, which are negated
+-- the sum of lower ends, which are negated
 
 pub below_left : (x y : ℤ) → pos 9223372036854775807 ≤ℤ x → pos 9223372036854775807 ≡ sum_below x y
 below_left x y h = sym (ap (λ a. lane_of (negated (ext_plus (negated a) (negated (upper y))))) (upper_high x h))

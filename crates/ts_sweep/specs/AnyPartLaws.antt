@@ -18,7 +18,7 @@ use Rattle.ts_sweep.specs.Small.{IsSmall}
 use Rattle.ts_sweep.specs.Trees.{tree_value}
 use Rattle.ts_sweep.specs.TreeLaws.{any_packs, tree_packs, zero_small}
 
--- the ends of its front stand for the front
+-- the ends of a part's front stand for the front
 pub part_packs : (k : AnyPart) (s : Sides) (xs : List ℤ) (h : Hull) (x : ℤ) → AreEndsOf s xs h →
     IsSplitFor s (part_split k) →
     IsSmall x →
@@ -30,13 +30,13 @@ part_packs (Tail o e) s xs h x are suits small =
 part_packs (Double o e f) s xs h x are suits small =
     tree_packs (part_front (Double o e f)) s xs h x (pos 0) are suits small zero_small
 
--- without a tail the next cell makes nothing more of it
+-- the next cell changes nothing where a part has no tail
 pub part_no_tail : (k : AnyPart) (s : Span) (y : ℤ) → part_tails k ≡ false → closed_span (part_split k) s y ≡ s
 part_no_tail (Front e) s y none = refl
 part_no_tail (Tail o e) s y none = never_added none
 part_no_tail (Double o e f) s y none = never_added none
 
--- closed ends stand for the closed span
+-- closed ends of a part stand for the closed span
 pub part_closed_packs : (k : AnyPart) (s : Sides) (a : Ends) (t : Span) (y : ℤ) → IsEndsOf s a t → IsSmall y →
     IsEndsOf s (part_closed k a y) (closed_span (part_split k) t y)
 part_closed_packs (Front e) s a t y p small = p

@@ -57,18 +57,18 @@ part_split (Front e) = FrontOf (formula e.now)
 part_split (Tail o e) = TailOf o (formula e.now)
 part_split (Double o e f) = TailOf o (Join (Fold o) (formula e.now) (formula f.now))
 
--- how an expression is split, which may be no such part
+-- how an expression is split: as its part is, or by pairs where it is none
 abbrev pub split_by : Option AnyPart → Split
 split_by None = ByPairs
 split_by (Some k) = part_split k
 
--- the next cell stands in it
+-- the next cell stands in a part
 abbrev pub part_tails : AnyPart → Bool
 part_tails (Front e) = false
 part_tails (Tail o e) = true
 part_tails (Double o e f) = true
 
--- what the next cell y makes of the ends of its front
+-- what the next cell y makes of the ends of a part's front
 abbrev pub part_closed : AnyPart → Ends → ℤ → Ends
 part_closed (Front e) a y = a
 part_closed (Tail o e) a y = folded_by o a (number_ends y)

@@ -27,7 +27,7 @@ IsMoved s lanes nothing m l twin n v before k w old new =
     ≡ hull_of_both (hull_at lanes nothing old j)
     (seen_hull s (gives m l twin n v (hull_at lanes nothing before) (w j)))
 
--- what it gives with the next value negated, and each of the next column has taken that in
+-- what a move gives with the next value negated, and each hull of the next column has taken that in
 unfoldable pub gives_turned : Move → Letter → Bool → ℕ → (ℕ → ℤ) → (ℕ → Hull) → ℤ → Hull
 gives_turned m l twin n v h w =
     total n (λ i. cond (compares l twin (v i) w) (after_move m (h i) (v i) (neg_ℤ w)) none)

@@ -23,11 +23,11 @@ cover_ends c R = c.r
 abbrev pub IsBounded : Cover → List ℤ → Type 0
 IsBounded cover xs = (k : Name) → ArePlain (cover_ends cover k) → AreWithin 1 (name_ends xs k)
 
--- the ends of a hull in which registers lie are bounded so, as they are read
+-- a cover bounds the ends of a hull in which registers lie, as they are read
 abbrev pub IsHullBounded : Sides → Cover → List ℤ → Type 0
 IsHullBounded s cover xs = some_lanes xs ≡ true → IsBounded cover (as_read s xs)
 
--- one cover bounds the ends of each of so many hulls
+-- one cover bounds the ends of each of `count` hulls
 abbrev pub IsCoverOf : {X : Type 0} → Sides → (X → List ℤ) → X → Cover → ℕ → List X → Type 0
 IsCoverOf s lanes none cover count hulls =
     (i : ℕ) → i < count → IsHullBounded s cover (lanes (get_or hulls i none))
@@ -46,7 +46,7 @@ bound_ends BothEnds e turned = e
 bound_ends UpperEnds e turned = ends turned.above e.above
 bound_ends LowerEnds e turned = ends e.below turned.below
 
--- the join of two hulls, and of so many
+-- the join of two hulls, and of any number of hulls
 abbrev pub join_of : (n : ℕ) → PackedHull n → PackedHull n → PackedHull n
 join_of n a b = record { at = greater_of a.at b.at }
 

@@ -58,7 +58,8 @@ IsFor BothEnds f = Unit {0}
 IsFor UpperEnds f = is_narrow f ≡ true
 IsFor LowerEnds f = is_narrow f ≡ true
 
--- of an expression that is split, and of those of a move: a hull of one end has the registers of a narrow automaton
+-- the ends serve an expression that is split, and those of a move: a hull of one end has the registers of a narrow
+-- automaton
 abbrev pub IsSplitFor : Sides → Split → Type 0
 IsSplitFor s (FrontOf e) = IsFor s e
 IsSplitFor s (TailOf o e) = IsFor s e

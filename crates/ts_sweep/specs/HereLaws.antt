@@ -8,7 +8,7 @@ use Rattle.ts_automaton.specs.Formula.{Formula, Leaf, Join, is_narrow, is_narrow
 use Rattle.ts_sweep.specs.Here.{here_word, here_formula}
 use Rattle.ts_sweep.specs.Trees.{joined_by, word_ends, tree_value}
 
--- the ends of what is read so are those between the cell and itself
+-- a word that reads the next cell as the cell has the ends that the word has between the cell and itself
 word_here : (a : Atom) (xs : List ℤ) (x y : ℤ) → word_ends a xs x x ≡ word_ends (here_word true a) xs x y
 word_here C xs x y = refl
 word_here E xs x y = refl
@@ -28,7 +28,7 @@ tree_here (Join o f g) xs x y =
     ap (λ z. joined_by o z (tree_value g xs x x)) (tree_here f xs x y)
     ∙ ap (joined_by o (tree_value (here_formula true f) xs x y)) (tree_here g xs x y)
 
--- it stands in narrow automata as before
+-- a word that reads the next cell as the cell stands in narrow automata where the word does
 narrow_word : (a : Atom) → is_narrow_atom a ≡ is_narrow_atom (here_word true a)
 narrow_word C = refl
 narrow_word E = refl

@@ -3,7 +3,7 @@ use Rattle.std.specs.Prelude.{◌≡◌, ◌<◌, ◌≤◌, ◌≤ℤ◌, ℕ, 
 use Rattle.std.specs.Int.{int_max}
 use Rattle.std.specs.Ordering.{int_eq}
 
--- lane by lane the greater
+-- the greater number in each lane
 unfoldable pub greater_of : List ℤ → List ℤ → List ℤ
 greater_of [] ys = []
 greater_of (x ∷ xs) [] = []
@@ -17,7 +17,7 @@ least = negsuc 9223372036854775807
 abbrev pub no_lanes : ℕ → List ℤ
 no_lanes n = replicate n least
 
--- so many lanes, each at least the least
+-- n lanes, each at least the least number
 abbrev pub AreLanes : ℕ → List ℤ → Type 0
 AreLanes n xs = (length xs ≡ n) × ((k : ℕ) → k < length xs → least ≤ℤ get_or xs k (pos 0))
 
@@ -26,7 +26,7 @@ abbrev pub some_lanes : List ℤ → Bool
 some_lanes [] = false
 some_lanes (x ∷ xs) = not (int_eq x least)
 
--- lane by lane the greater, of the first n lanes
+-- the greater number in each of the first n lanes
 abbrev pub AreGreater : ℕ → List ℤ → List ℤ → List ℤ → Type 0
 AreGreater n xs ys zs = (k : ℕ) → k < n → get_or zs k (pos 0) ≡ int_max (get_or xs k (pos 0)) (get_or ys k (pos 0))
 

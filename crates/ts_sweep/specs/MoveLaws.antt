@@ -216,7 +216,7 @@ pub none_is : (n : ℕ) → some_lanes (no_lanes n) ≡ false
 none_is zero = refl
 none_is (suc n) = refl
 
--- where registers lie in lanes there isn't nothing in them
+-- lanes in which registers lie aren't lanes of nothing
 pub not_nothing : {A : Type 0} (n : ℕ) (xs : List ℤ) → some_lanes xs ≡ true → (xs ≡ no_lanes n) ⊎ A → A
 not_nothing n xs some (inl e) = never_added (sym some ∙ ap some_lanes e ∙ none_is n)
 not_nothing n xs some (inr a) = a
@@ -295,7 +295,7 @@ pub pack_name : (n : ℕ) (xs : List ℤ) (k : Name) → 6 ≤ n → AreSome n x
 pack_name n xs k big h =
     subst (IsPackOf (ends_in xs (place n k))) (sym (name_at n xs k h.len)) (pack_at n xs (place n k) (placed n k big) h)
 
--- as it is read
+-- a register of a width, as it is read
 pub read_name : (s : Sides) (n : ℕ) (xs : List ℤ) (k : Name) → 6 ≤ n → AreSome n xs →
     IsEndsOf s (ends_in (as_read s xs) (place n k)) (name_span xs k)
 read_name s n xs k big h =
@@ -430,7 +430,7 @@ both_suits BothEnds ByPairs is = tt
 both_suits UpperEnds p is = cc
 both_suits LowerEnds p is = cc
 
--- what there is of each register there is of all
+-- what holds of each register holds of all
 pub by_names : (P : Name → Type 0) → P C → P E → P D → P F → P R → (k : Name) → P k
 by_names P c e d f r C = c
 by_names P c e d f r E = e

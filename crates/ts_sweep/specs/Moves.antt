@@ -99,7 +99,7 @@ closes_by c e d f r D = d
 closes_by c e d f r F = f
 closes_by c e d f r R = r
 
--- of a register that has a place
+-- what is said of a register, where it has a place
 abbrev pub IfPlaced : Option ℕ → Type 0 → Type 0
 IfPlaced None P = Unit {0}
 IfPlaced (Some p) P = P

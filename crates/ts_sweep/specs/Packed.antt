@@ -60,7 +60,7 @@ place_in wide D = Some (cond wide 2 1)
 place_in wide F = cond wide (Some 3) None
 place_in wide R = Some (cond wide 4 2)
 
--- in n lanes
+-- the place of a register in n lanes
 abbrev pub place : ℕ → Name → Option ℕ
 place n name = place_in (is_wide n) name
 
@@ -99,7 +99,7 @@ pub record IsSomeEnds (e : Ends) : Type 0 where
   pub above : least <ℤ e.above
   pub some : has_some (ends_span e) ≡ true
 
--- n lanes have such a place
+-- n lanes have the place, or at least the first one where there is none
 abbrev pub IsPlace : ℕ → Option ℕ → Type 0
 IsPlace n None = 2 * 0 + 1 < n
 IsPlace n (Some p) = 2 * p + 1 < n
@@ -110,11 +110,11 @@ pub record AreSome (n : ℕ) (xs : List ℤ) : Type 0 where
   pub above : (k : ℕ) → k < n → least <ℤ get_or xs k (pos 0)
   pub some : (register : ℕ) → 2 * register + 1 < n → has_some (register_span xs register) ≡ true
 
--- registers lie in all of them, or there is nothing in each
+-- registers lie in all of n lanes, or there is nothing in each
 abbrev pub IsPacked : ℕ → List ℤ → Type 0
 IsPacked n xs = (xs ≡ no_lanes n) ⊎ AreSome n xs
 
--- so many hulls, each packed
+-- `count` hulls, each packed
 abbrev pub ArePacked : {X : Type 0} → (X → List ℤ) → X → ℕ → ℕ → List X → Type 0
 ArePacked lanes none n count hulls =
     (length hulls ≡ count) × ((i : ℕ) → i < count → IsPacked n (lanes (get_or hulls i none)))
@@ -124,7 +124,7 @@ pub record IsPackOf (e : Ends) (s : Span) : Type 0 where
   pub some : IsSomeEnds e
   pub span : ends_span e ≡ s
 
--- end by end the greater
+-- the greater of each end
 abbrev pub max_ends : Ends → Ends → Ends
 max_ends a b = ends (int_max a.below b.below) (int_max a.above b.above)
 

@@ -230,7 +230,7 @@ pub none_unpacked : (n : ℕ) → 6 ≤ n → unpacked (no_lanes n) ≡ none_hul
 unfolding unpacked
 none_unpacked n big = same_by (name_span (no_lanes n)) (λ k. none_span) (λ k. name_none n k big)
 
--- beside none
+-- the hull of a span that holds something, and of none
 hull_none : (s : Span) → has_some s ≡ true → span_hull s none_span ≡ s
 hull_none s h = ap (λ b. cond b s none_span) h
 

@@ -59,7 +59,7 @@ pair_found wide cells =
     if wide then Join Sub (pair_cells cells AtomD) (pair_cells Min AtomF)
     else pair_cells cells AtomD
 
--- the words of E and F: a narrow automaton hasn't them
+-- the words of E and F, which a narrow automaton doesn't have
 abbrev pub held_atom : Bool → Atom
 held_atom wide = if wide then AtomE else Zero
 
@@ -90,12 +90,12 @@ found_atom Less greatest = if greatest then Next else This
 found_atom Equal greatest = This
 found_atom Greater greatest = if greatest then This else Next
 
--- D and F hold no cell yet, as far as their ends are kept
+-- neither D nor F holds a cell yet, as far as their ends are kept
 abbrev pub IsBegun : Sides → Bool → Op → List ℤ → Type 0
 IsBegun s wide cells xs =
     (name_ends xs D ≡ read_ends s (start_ends cells)) × (name_ends xs F ≡ beside wide (start_ends Min))
 
--- an emission serves lanes as they are read: it is the move, sums stay small, and D and F hold no cell yet
+-- an emission serves lanes as they are read: it is the move, sums stay small, and neither D nor F holds a cell yet
 pub record IsEmitted (s : Sides) (wide : Bool) (k : Emission) (xs : List ℤ) : Type 0 where
   pub made : (move_of k.turn.now).to ≡ emission wide k.ranges k.cells
   pub one : wide ≡ true → k.cells ≡ Max

@@ -103,7 +103,7 @@ IsUpper x a = (least <ℤ x) × (upper x ≡ a)
 abbrev pub IsLower : ℤ → Ext → Type 0
 IsLower x a = (least <ℤ x) × (negated (upper x) ≡ a)
 
--- where this end is kept
+-- what is said of the lower end, where it is kept, and of the upper one
 abbrev pub IfBelow : Sides → Type 0 → Type 0
 IfBelow BothEnds P = P
 IfBelow UpperEnds P = Unit {0}

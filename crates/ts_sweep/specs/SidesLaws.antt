@@ -165,7 +165,7 @@ alone n = go (nat_eq n 3) (nat_eq n 4) refl refl
         inl (ap (λ c. cond c UpperEnds (cond (nat_eq n 4) LowerEnds BothEnds)) e
         ∙ ap (λ c. cond c LowerEnds BothEnds) f)
 
--- in lanes in which there isn't nothing there isn't with both ends
+-- lanes in which something lies hold something with both ends too
 
 filled_some : (x : ℤ) → least <ℤ x → filled x ≡ pos 9223372036854775807
 filled_some x h = grind (arith, ints)
@@ -420,7 +420,7 @@ pub lower_read : (xs : List ℤ) (p : ℕ) → p < length xs →
     ends_in (as_read LowerEnds (lanes_by LowerEnds xs)) (Some p) ≡ ends (get_or xs p (pos 0)) (pos 0)
 lower_read xs p lt = low_at (lower_lanes xs) p ∙ ap (read_ends LowerEnds) (lower_ends xs p lt)
 
--- so many lanes with both ends, from so many of one
+-- how many lanes with both ends are made of lanes of one end
 pub lanes_length : (s : Sides) (n : ℕ) (xs : List ℤ) → length xs ≡ n → length (lanes_by s xs) ≡ count_by s n
 lanes_length BothEnds n xs e = e
 lanes_length UpperEnds n xs e = let twice = upper_length xs in omega (arith, twice, e)
@@ -439,7 +439,7 @@ lower_at n p xs x four lt is =
     ap (λ z. ends z (pos 0)) is ∙ sym (lower_read xs p lt)
     ∙ ap (λ m. ends_at (as_read (sides m) (lanes_in m xs)) p) (sym four)
 
--- whether there is nothing the first lane shows
+-- the first lane shows whether there is nothing
 filled_is : (x : ℤ) → least ≤ℤ x → not (int_eq x least) ≡ not (int_eq (filled x) least)
 filled_is x h = elim (least_or x) [
   | inl le ↦ (let same : x ≡ least = omega (arith, ints, h, le) in ap (λ z. not (int_eq z least)) same

@@ -21,7 +21,7 @@ abbrev pub ahead_of : Bool → ℤ → ℕ → ℤ → ℕ → ℤ
 ahead_of true a n b m = b -ℤ a
 ahead_of false a n b m = (a +ℤ pos n) -ℤ (b +ℤ pos m)
 
--- one more with a twin
+-- how far one cell is ahead of the next, one more with a twin
 abbrev pub with_twin : Bool → ℤ → ℤ
 with_twin true x = x +ℤ pos 1
 with_twin false x = x

@@ -24,12 +24,13 @@ abbrev pub apart : Bool → ℤ → ℤ → ℤ
 apart true v w = int_max v w -ℤ int_min v w
 apart false v w = int_min v w -ℤ int_max v w
 
--- such an end, or that of R if that is lesser and asked for; nothing of a hull in which no registers lie
+-- an end of the difference of two cells, or that of R if it is less and asked for; nothing of a hull in which no
+-- registers lie
 abbrev pub lesser : Bool → Bool → Bool → Ends → ℤ → ℤ → ℤ
 lesser above bounded some r v w =
     cond some (cond bounded (int_min (end_of above r) (apart above v w)) (apart above v w)) least
 
--- the greatest of those of n hulls whose value compares
+-- the greatest of the ends that `lesser` gives, over those of n hulls whose value compares
 abbrev pub top : Bool → Bool → Letter → Bool → ℕ → (ℕ → Bool) → (ℕ → Ends) → (ℕ → ℤ) → ℤ → ℤ
 top above bounded l twin n some r v w =
     total int_max least (λ i. compares l twin (v i) w) (λ i. lesser above bounded (some i) (r i) (v i) w) n

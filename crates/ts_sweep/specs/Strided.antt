@@ -29,11 +29,11 @@ pub record IsPackable (n : ℕ) (h : Hull) : Type 0 where
   pub small : small_hull h ≡ true
   pub rests : is_wide n ≡ false → some_hull h ≡ true → HoldZero (spans_of h)
 
--- the hull of a state, one of so many, at a place
+-- the hull of a state, of `states`, at a place
 abbrev pub packed_at : (n states state : ℕ) → List Hull → ℕ → PackedHull n
 packed_at n states state row i = record { at = lanes_of n (hull_in states state row i) }
 
--- rows that are the same but for the hulls of a state, one of so many, of the first values
+-- rows that are the same but for the hulls of a state, of `states`, of the first `count` values
 pub record AreBeside (state states count : ℕ) (a b : List Hull) : Type 0 where
   pub len : length b ≡ length a
   pub same : (p : ℕ) → ((i : ℕ) → i < count → p ≢ i * states + state) → get_or b p none ≡ get_or a p none

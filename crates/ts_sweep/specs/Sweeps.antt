@@ -4,7 +4,7 @@ use Rattle.std.specs.Prelude.{◌≡◌, ℕ, zero, suc, ◌+◌, ◌-◌, ◌<�
 use Rattle.ts_base.specs.declared.letter.Letter.{Letter}
 use Rattle.ts_hull.specs.Sweeps.{compares}
 
--- what the f i join to of those i below n that pass a test
+-- what the f i join to, of those i below n that pass a test
 unfoldable pub total : {X : Type 0} → (X → X → X) → X → (ℕ → Bool) → (ℕ → X) → ℕ → X
 total both none test f zero = none
 total both none test f (suc n) = cond (test n) (both (total both none test f n) (f n)) (total both none test f n)
@@ -56,13 +56,13 @@ unfoldable pub gathered : {X : Type 0} → (X → X → X) → X → Bool → (�
 gathered both none up f n zero = none
 gathered both none up f n (suc k) = both (gathered both none up f n k) (f (step_place up n k))
 
--- at step k of the next values so many of the values are passed: those whose step is below k + ahead - behind
+-- at step k of the next values, those of the values are passed whose step is below k + ahead - behind
 abbrev pub Leads : Bool → Bool → (ℕ → ℤ) → ℕ → (ℕ → ℤ) → ℕ → ℕ → ℕ → Type 0
 Leads up twin value n next_value m ahead behind =
     (i k : ℕ) → i < n → k < m → passes up twin (value (step_place up n i)) (next_value (step_place up m k))
     ≡ nat_lt (i + behind) (k + ahead)
 
--- so far those of the m items have taken in what there is for their steps whose step is before step t
+-- of the m items, those whose step comes before step t have taken in what there is for their step
 pub record IsSteppedTo {X Y : Type 0} (taking : Y → X → Y) (none : X) (blank : Y) (up : Bool) (h : ℕ → X)
     (m ahead behind t : ℕ) (old new : List Y) : Type 0 where
   pub len : length new ≡ length old

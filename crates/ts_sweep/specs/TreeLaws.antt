@@ -148,7 +148,7 @@ tree_packs (Join Sub f g) BothEnds xs h x y are suits small next =
 tree_packs (Join Sub f g) UpperEnds xs h x y are suits small next = cc
 tree_packs (Join Sub f g) LowerEnds xs h x y are suits small next = cc
 
--- at no next cell, as it were
+-- 0, which stands where there is no next cell, is small
 pub zero_small : IsSmall (pos 0)
 zero_small = (grind (arith, ints), grind (arith, ints))
 

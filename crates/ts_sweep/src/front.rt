@@ -28,17 +28,17 @@ pub trait Front: Copy {
     /// The expression.
     ghost formula: { Self → Formula };
 
-    /// The number of its words, counted up to 255.
+    /// The number of the expression's words, counted up to 255.
     ghost words: { Self → ℕ };
 
-    /// That the expression may be evaluated on these lanes; if it is added to something, that its registers are small
+    /// That the expression may be evaluated on these lanes: where it is added to something, its registers are small
     /// numbers.
     ghost fit: { Self → Bool → List ℤ → Type 0 };
 
-    /// Its ends in lanes, at a value.
+    /// The ends of the expression in lanes, at a value.
     ghost value: { Self → List ℤ → ℤ → Ends };
 
-    /// The number of its words.
+    /// The number of the expression's words, counted up to 255.
     fn words(self) -> u8
         ensures { result ≡ words self };
 

@@ -20,17 +20,17 @@ pub trait Operator: Copy {
     /// The operator.
     ghost op: { Self → Operator };
 
-    /// That it adds: then its operands have to be small numbers.
+    /// That the operator adds: then its operands have to be small numbers.
     ghost adds: { Self → Bool };
 
-    /// What it makes of ends.
+    /// What the operator makes of ends.
     ghost joined: { Self → Ends → Ends → Ends };
 
-    /// Whether it adds.
+    /// Whether the operator adds.
     fn is_sum(self) -> bool
         ensures { result ≡ adds self };
 
-    /// Whether it is the difference.
+    /// Whether the operator is the difference.
     fn is_difference(self) -> bool
         ensures { result ≡ is_sub (op self) };
 
@@ -64,15 +64,15 @@ pub trait Folds: Operator {
 #[derive(Clone, Copy)]
 pub struct Plus;
 
-/// The first less the second.
+/// The first operand less the second.
 #[derive(Clone, Copy)]
 pub struct Minus;
 
-/// The greater.
+/// The greater operand.
 #[derive(Clone, Copy)]
 pub struct Greater;
 
-/// The lesser.
+/// The lesser operand.
 #[derive(Clone, Copy)]
 pub struct Lesser;
 

@@ -70,13 +70,13 @@ pub trait Packed: Hull {
     ghost use Rattle.ts_sweep.specs.Packed.{IsPacked, ends_in, is_wide, name_ends, place, unpacked, with_ends_in};
     ghost use Rattle.ts_sweep.specs.Sides.{BothEnds, Sides, as_read, kept_ends, read_ends, seen_hull};
 
-    /// Which ends it has.
+    /// Which ends the hull has.
     ghost sides: { Sides };
 
-    /// How many lanes there are for both ends.
+    /// How many lanes there are for both ends of all registers.
     ghost count: { ℕ };
 
-    /// The lanes of both ends, those of an end that it hasn't infinite.
+    /// The lanes of both ends; those of an end that the hull doesn't have are infinite.
     ghost lanes: { Self → List ℤ };
 
     /// The hull with other ends of a register, if it has lanes for it.
@@ -86,11 +86,11 @@ pub trait Packed: Hull {
     fn is_wide() -> bool
         ensures { result ≡ is_wide count };
 
-    /// Whether it has both ends.
+    /// Whether the hull has both ends.
     fn has_both() -> bool
         ensures { result ≡ true → sides ≡ BothEnds };
 
-    /// Whether registers lie in it.
+    /// Whether registers lie in the hull.
     fn is_some(&self) -> bool
         ensures { result ≡ some_lanes (lanes self.now) };
 
@@ -106,7 +106,7 @@ pub trait Packed: Hull {
         ensures placed { result ≡ ends_in (as_read sides (lanes self.now)) (place count register) }
         ensures value { result ≡ name_ends (as_read sides (lanes self.now)) register };
 
-    /// Ends as they are read from a hull: one that it hasn't is 0.
+    /// Ends as they are read from a hull: one that the hull doesn't have is 0.
     fn read(e: Ends) -> Ends
         ensures { result ≡ read_ends sides e };
 
@@ -142,7 +142,7 @@ pub(crate) fn number(x: i64) -> Ends
     }
 }
 
-/// Lane by lane the greater.
+/// The greater number in each lane.
 #[inline(always)]
 fn greater<const N: usize>(a: [i64; N], b: [i64; N]) -> [i64; N]
     ensures { result ≡ greater_of a.entry b.entry }

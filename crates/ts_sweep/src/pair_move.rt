@@ -33,10 +33,10 @@ pub trait PairMove: Copy {
     /// The move.
     ghost made: { Self → Move };
 
-    /// That it may be evaluated on these lanes, of so many.
+    /// That the move may be evaluated on these lanes, of a given number.
     ghost fit: { Self → Sides → ℕ → List ℤ → Type 0 };
 
-    /// The ends of a register after the move: those that hulls have are exact.
+    /// The ends of a register after the move; the ends that hulls have are exact.
     fn ends<H: Packed>(self, register: Name, h: H, x: i64, y: i64) -> Ends
         requires registers { 6 ≤ H.count }
         requires fit { fit self H.sides H.count (as_read H.sides (H.lanes h)) }
@@ -229,7 +229,7 @@ impl<'a> PairMove for Emission<'a> {
     }
 }
 
-/// Whether D holds no cell yet, and F neither, as far as the hull has them.
+/// Whether neither D nor F holds a cell yet, as far as the hull has them.
 #[inline(always)]
 fn is_begun<H: Packed>(h: H, cells: Op) -> bool
     requires registers { 6 ≤ H.count }
@@ -240,7 +240,7 @@ fn is_begun<H: Packed>(h: H, cells: Op) -> bool
         || h.ends(Name::D) == H::read(start_ends(cells)) && h.ends(Name::F) == open_ends::<H>()
 }
 
-/// Whether `others` holds, and D and F hold no cell yet in a hull.
+/// Whether `others` holds, and neither D nor F holds a cell yet in a hull.
 #[inline(always)]
 fn with_begun<H: Packed>(others: bool, h: H, cells: Op) -> bool
     requires registers { 6 ≤ H.count }
@@ -251,7 +251,7 @@ fn with_begun<H: Packed>(others: bool, h: H, cells: Op) -> bool
     others && is_begun(h, cells)
 }
 
-/// Whether D and F hold no cell yet in any hull of a column.
+/// Whether neither D nor F holds a cell yet in any hull of a column.
 #[inline(never)]
 pub fn are_begun<H: Packed>(hulls: &[H], cells: Op) -> bool
     requires registers { 6 ≤ H.count }

@@ -74,7 +74,7 @@ fn end_of<const ABOVE: bool>(e: Ends) -> i64
     if ABOVE { e.above } else { e.below }
 }
 
-/// An end of the difference of two cells, or that of R if that is lesser and asked for; nothing of no hull.
+/// An end of the difference of two cells, or that of R if it is less and asked for; nothing for a hull of nothing.
 #[inline(always)]
 fn lesser<const ABOVE: bool, H: Packed>(bounded: bool, h: H, v: i64, w: i64) -> i64
     requires registers { 6 ≤ H.count }
@@ -208,7 +208,7 @@ fn beyond<const UP: bool>(run: Run, w: i64) -> i64
     }
 }
 
-/// A number less one as a count; none below 0.
+/// A number less one, as a count; 0 where that is below 0.
 #[inline(always)]
 fn counted(x: i64) -> usize
     requires { x ≤ℤ pos 100000000 }
@@ -229,8 +229,8 @@ fn come_last<const UP: bool>(letter: Letter) -> bool
     }
 }
 
-/// So many first steps come to no value that compares with a next one, where those that compare come last: found by
-/// halves.
+/// How many of the first steps are skipped, found by bisection: none of them comes to a value that compares with a next
+/// one. The values that compare come last.
 #[inline(always)]
 fn halved<const UP: bool, V: Values>(letter: Letter, twin: bool, values: V, w: i64) -> usize
     requires ok { V.ok values }
@@ -255,7 +255,7 @@ fn halved<const UP: bool, V: Values>(letter: Letter, twin: bool, values: V, w: i
     low
 }
 
-/// So many first steps come to no value that compares with a next one.
+/// How many of the first steps are skipped: none of them comes to a value that compares with a next one.
 #[inline(always)]
 fn first_step<const UP: bool, V: Values>(letter: Letter, twin: bool, values: V, w: i64) -> usize
     requires ok { V.ok values }
@@ -272,7 +272,7 @@ fn first_step<const UP: bool, V: Values>(letter: Letter, twin: bool, values: V, 
     }
 }
 
-/// The greatest that the values give, or `most` if that is less.
+/// The greatest number that the values give, or `most` if that is less.
 #[inline(always)]
 fn walked<const ABOVE: bool, const UP: bool, H: Packed, V: Values>(
     letter: Letter,
@@ -305,7 +305,7 @@ fn walked<const ABOVE: bool, const UP: bool, H: Packed, V: Values>(
     found.min(most)
 }
 
-/// The greatest that the values give, or `most` if that is less, in the order in which the differences fall.
+/// The greatest number that the values give, or `most` if that is less, in the order in which the differences fall.
 #[inline(always)]
 fn top_of<const ABOVE: bool, H: Packed, V: Values>(
     letter: Letter,

@@ -12,7 +12,7 @@ pub trait Values: Copy {
 
     ghost ok: { Self → Type 0 };
 
-    /// How many there are.
+    /// How many values there are.
     fn count(&self) -> usize
         ensures { result ≡ len self.now };
 
