@@ -28,7 +28,7 @@ run_is vs count low is each =
     ext_get_or (pos 0) vs (run low count) (sym is ∙ sym (length-run low count))
     (λ i lt. sym (each i lt) ∙ sym (get_or-run low count i (pos 0) (subst (λ n. i < n) (sym is) lt)))
 
--- no number, and one more
+-- a run of no number, and a run with one more
 pub run_none : (low : ℤ) → run low 0 ≡ []
 unfolding run
 run_none low = refl

@@ -15,7 +15,7 @@ use Rattle.ts_bound.specs.declared.reading.Direction.{Direction}
 use Rattle.ts_bound.specs.declared.reading.Direction.TheVariants.{FromFirst, FromLast}
 use Rattle.ts_bound.specs.Reading.{in_order}
 
--- how many they are, as the code counts them
+-- how many cells a machine looks at, as the code counts them
 pub counted : (m : Machine) (b : Box) (w : Option Range) (n count : ℕ) → LooksIn (automata_of m) b → w ≡ window_of m → n ≡ length b →
     count ≡ count_looked w n → count ≡ length (looked_at (window_of m) b)
 counted m b w n count looks is is_n is_count =

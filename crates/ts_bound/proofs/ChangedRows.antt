@@ -41,7 +41,7 @@ module _ (c : Change) (b later : Box) (d : IsChange c b later) where
   turned : (cells : Box) → length cells ≡ c.count → get_or (reverse cells) (c.count - c.last) [] ≡ get_or cells (c.last - 1) []
   turned cells e = let some = c.some in turned_cell c.count c.last cells e (omega (arith, some)) c.within
 
-  -- those of the backward rows
+  -- what a change leaves of the backward rows
 
   pub behind_left : (p : Option Pair) (ends : Sides) (old new : Stack) (before now : List ℤ) → form_sides old.planned.form ≡ ends →
       IsPlannedBack p old.planned → AreBehind p ends b old.known → GoOnBehind p ends b old.laid → AreKeptBehind p ends b old.kept →

@@ -70,7 +70,7 @@ no_hulls : (xs : List Hull) → length xs ≡ 0 → xs ≡ []
 no_hulls [] e = refl
 no_hulls (x ∷ xs) e = absurd (omega (arith, e))
 
--- all rows are, but for those that are empty
+-- all rows are filled, but for those that are empty
 pub filled_all : (T t : List (List Hull)) (lo hi : ℕ) → IsFilled T lo hi t →
     ((k : ℕ) → 1 ≤ k → k ≤ length T → ((lo ≤ k) × (k ≤ hi)) ⊎ (row_at k T ≡ [])) → t ≡ T
 filled_all T t lo hi f cover = same_rows t T f.long at
@@ -156,7 +156,7 @@ module _ (b : Body) (w : Option Range) (cells : List (List ℤ)) (looks : LooksI
     pub sized : (t : List (List Hull)) (lo hi k : ℕ) → IsFilled T lo hi t → 1 ≤ k → k ≤ length cells → length (row_at k t) ≡ length (row_at k T)
     sized t lo hi k f some few = let long = made.long in f.sizes k some (omega (arith, long, few))
 
-    -- all that are looked at are filled
+    -- the rows of all cells that are looked at are filled
     pub filled_whole : (t : List (List Hull)) (lo hi : ℕ) → lo ≤ first_looked w → last_looked w (length cells) ≤ hi → IsFilled T lo hi t → t ≡ T
     filled_whole t lo hi below above f = filled_all T t lo hi f (λ k some few. go k some few (is_looked w k) refl)
       where

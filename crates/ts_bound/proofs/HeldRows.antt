@@ -197,7 +197,7 @@ module _ (p : Planned) (rows new : List HullRow) (k from : ℕ) (row : HullRow) 
   kept_others i ne =
       ap (λ l. kept_at l i) kept_list ∙ at_others k (kept_in p.states row) nothing_kept (all_kept p.states rows) long_kept i ne
 
-  -- it is known too
+  -- the row that came to place k is known too
   pub held_more : (next : ℕ) (old : Stack) → held p rows k from ≡ old → from ≤ next → k + 1 ≤ next →
       IsOneMore (hulls_in p.states (shown row)) (kept_in p.states row) old (held p new (k + 1) next)
   held_more next old is to above =
@@ -260,7 +260,7 @@ module _ (p : Planned) (rows : List HullRow) (k from next : ℕ) (row left : Hul
   more : IsOneMore (hulls_in p.states (shown left)) (kept_in p.states left) (held p rows k from) (held p after (k + 1) next)
   more = held_more p rows after k from left (omega (arith, lt)) is_after next (held p rows k from) refl to above
 
-  -- without values that are gone
+  -- the row at place k without values that are gone
   pub held_less : (g : Gone) (before : List ℤ) → HasLost g before row left → IsLess g before old (held p after (k + 1) next)
   held_less g before z =
       let l = z.kept p row_laid in let s = p.states in let made = made_without p g.from g.to (shown row) (shown_laid p row row_laid).0 in
@@ -274,7 +274,7 @@ module _ (p : Planned) (rows : List HullRow) (k from next : ℕ) (row left : Hul
             (ap (hulls_in s) z.hulls ∙ made.1 ∙ ap (without s g) (sym hulls_there)) more;
       })
 
-  -- with the values that it shows again
+  -- the row at place k with the values that it shows again
   pub held_shown : (now : List ℤ) → Shows now row left → IsShown now old (held p after (k + 1) next)
   held_shown now z =
       let s = p.states in let here = kept_in s row in

@@ -44,7 +44,7 @@ rows_of_front b before cells zero = refl
 rows_of_front b before [] (suc k) = refl
 rows_of_front b before (vs ∷ cells) (suc k) = ap (λ l. row_of b before vs ∷ l) (rows_of_front b (vs ∷ before) cells k)
 
--- what is seen of them
+-- what is seen of the rows of an automaton
 
 seen_of_front : (a : Sight) (cells : Box) (k : ℕ) → rows_seen a (take k cells) ≡ take k (rows_seen a cells)
 seen_of_front a cells k =
@@ -56,7 +56,7 @@ seen_long a cells = length-map (forward_rows a.body cells) (seen_row a.ends) ∙
 seen_at : (a : Sight) (cells : Box) (i : ℕ) → get_or (rows_seen a cells) i [] ≡ seen_row a.ends (get_or (forward_rows a.body cells) i [])
 seen_at a cells i = get_or-map (seen_row a.ends) (forward_rows a.body cells) i []
 
--- each is made of what is seen of the one before
+-- what is seen of each row is made of what is seen of the one before
 pub row_on_seen : (a : Sight) → IsSound a → (cells : Box) (i : ℕ) → i + 1 < length cells →
     get_or (rows_seen a cells) (i + 1) [] ≡ next_seen a (get_or cells i []) (get_or (rows_seen a cells) i []) (get_or cells (i + 1) [])
 row_on_seen a sound cells i lt =
@@ -69,12 +69,12 @@ row_on_seen a sound cells i lt =
     (ap (λ j. get_or (forward_rows b cells) j []) on ∙ row_on b [] cells i (omega (arith, lt)) ∙ ap (λ j. next_row b us row (get_or cells j [])) (sym on))
     ∙ sym (row_seen a.ends b sound.rules sound.alone us row vs long) ∙ ap (λ r. next_seen a us r vs) (sym (seen_at a cells i))
 
--- there are no more of them than cells
+-- there are no more known rows than cells
 pub few_known : (a : Sight) (cells : Box) (rows : Rows) → AreFirst a cells rows → length rows ≤ length cells
 few_known a cells rows h =
     let l = ap length h ∙ length-take (length rows) (rows_seen a cells) in let f = seen_long a cells in omega (arith, l, f)
 
--- one more
+-- one more row is known
 pub one_more : (a : Sight) (cells : Box) (rows : Rows) (row : List Hull) → AreFirst a cells rows → length rows < length cells →
     row ≡ get_or (rows_seen a cells) (length rows) [] → AreFirst a cells (rows ++ row ∷ [])
 one_more a cells rows row h lt is =

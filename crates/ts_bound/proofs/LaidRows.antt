@@ -179,7 +179,7 @@ all_rows_stand a cells old new row h s is plan all same kept =
     (subst (AreFirst z cells) s.known h.known) (s.same ∙ is)))
     (subst (λ (l : Laid). GoOn z cells l.rows l.from) (sym same) h.laid) (subst (AreKept z cells) (sym kept) h.kept)
 
--- the same, as the code holds the rows
+-- a stack as the code holds its rows
 
 -- a stack of which the first k rows are known
 abbrev pub stack : Planned → Rows → ℕ → ℕ → List Kept → Stack
@@ -253,7 +253,7 @@ module _ (a : Body) (cells : Box) (s : Stack) (h : AreRows a cells s) where
   abbrev row_there : List ℤ → List Hull
   row_there values = seen_row sees.ends (row_of a (reverse (take top cells)) values)
 
-  -- without those values
+  -- a row without the values that are gone
   row_less : (values : List ℤ) (f t : ℕ) (row : List Hull) → row ≡ row_there values →
       remove_range row (f * s.planned.states) (t * s.planned.states) ≡ row_there (remove_range values f t)
   row_less values f t row is =
@@ -347,7 +347,7 @@ module _ (a : Body) (cells later : Box) (count end : ℕ) (old : Stack) (plan : 
   left_stays was now is_was is_now (Some gone) new (inl f) lost = restored_stays now new is_now f
   left_stays was now is_was is_now (Some gone) new (inr z) lost = spliced_stays gone was new is_was (is_now ∙ lost) z
 
--- they are made by the same plan
+-- rows that are known again are made by the same plan
 restored_planned : (count end : ℕ) (now : List ℤ) (old new : Stack) → IsRestored count end now old new → new.planned ≡ old.planned
 restored_planned count end now old new z = go z.more
   where

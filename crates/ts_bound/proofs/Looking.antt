@@ -10,7 +10,7 @@ use Rattle.ts_bound.specs.Looks.{is_looked, first_looked, last_looked, count_loo
 use Rattle.ts_bound.specs.Rows.{row_at, windowed}
 use Rattle.ts_bound.specs.TermSpans.{Automata, LooksIn, IsUsable}
 
--- what the test of a cell tells
+-- what the test of a cell shows
 
 inside_bounds : (r : Range) (k : ℕ) → is_looked (Some r) k ≡ true → (r.first ≤ k) × (k ≤ r.last)
 inside_bounds r k h = go (nat_le r.first k) (nat_le k r.last) refl refl h
@@ -28,7 +28,7 @@ outside_bounds r k h = go (nat_le r.first k) (nat_le k r.last) refl refl h
     go true false e f h = inr (leb-false k r.last f)
     go false b e f h = inl (leb-false r.first k e)
 
--- how many they are, and the place of each
+-- how many cells are looked at, and the place of each
 
 pub looked_length : {A : Type 0} (w : Option Range) (xs : List A) → LooksInside (length xs) w → length (looked_at w xs) ≡ count_looked w (length xs)
 looked_length None xs h = omega arith
@@ -106,7 +106,7 @@ place_usable m k cells h u =
       last = λ plain. ap (place_in w) (u.last plain) ∙ place_end w n h ∙ sym l;
     }
 
--- what stands at their places
+-- what stands at the places of the cells that are looked at
 
 module _ {A : Type 0} (xs : List A) (k : ℕ) where
   pub looked_get : (w : Option Range) (d : A) → LooksInside (length xs) w → is_looked w k ≡ true →

@@ -22,7 +22,7 @@ use Rattle.ts_bound.proofs.CellsRead.{forward_cell}
 abbrev LostOf : Box → Box → Other → Type 0
 LostOf cells later o = AreLost o.gone (get_or cells o.at []) (get_or later o.at [])
 
--- they are found cell by cell
+-- the others are found cell by cell
 
 -- among the first `at` cells these are the others
 pub record AreFound (others : List Other) (cells later : Box) (at : ℕ) : Type 0 where
@@ -53,7 +53,7 @@ module _ (others : List Other) (cells later : Box) (at : ℕ) (h : AreFound othe
     lost = All-push (LostOf cells later) others o h.lost (subst (λ j. AreLost o.gone (get_or cells j []) (get_or later j [])) (sym is) gone);
   }
 
--- what the comparison of one cell tells
+-- what the comparison of one cell shows
 
 pub cell_same : (others : List Other) (cells later : Box) (at : ℕ) (x y : List ℤ) → AreFound others cells later at → at < length cells →
     x ≡ get_or cells at x → y ≡ get_or later (at + 1 - 1) [] → x ≡ y → AreFound others cells later (at + 1)
@@ -72,9 +72,9 @@ cell_found others all cells later at x y g h lt is is' lost now =
     (subst (λ z. AreLost g z (get_or later at [])) (is ∙ get_or_default cells at x [] lt)
     (subst (AreLost g x) (is' ∙ ap (λ i. get_or later i []) place) lost)))
 
--- they are taken over one by one
+-- the others are taken over one by one
 
--- the first `i` of them are, so only at the others' places may what is seen differ
+-- the first `i` of the others are taken over, so what is seen may differ at the places of the rest alone
 pub record AreTaken (others : List Other) (seen cells : Box) (i : ℕ) : Type 0 where
   pub count : length cells ≡ length seen
   pub within : All (λ o. o.at < length seen) others
@@ -105,7 +105,7 @@ all_taken others seen cells i end h =
     ext_get_or [] seen cells (sym h.count)
     (λ p lt. sym (h.left p (subst (λ l. IsElsewhere l p) (sym (drop_all i others end)) (All-nil (λ o. o.at ≡ p → ⊥)))))
 
--- what they change in a window
+-- what the others change in a window
 
 at_place : (others : List Other) (o : Other) (at : ℕ) (g : Option Gone) → o.at ≡ at → g ≡ o.gone → HasLost (others ++ o ∷ []) at g
 at_place others o at g e is =

@@ -31,7 +31,7 @@ packed_next n b vs ws old new made =
     (λ q i lt less. sym (flat_at n s (length vs) old q i lt less))))
     ∙ sym (flat_seen (sides n) (next_hull b (sources s vs row)) seen_one (states_of b) ws (λ w t. refl))
 
--- and so it is what is seen of the row of the definition, if the one before is
+-- a row that is made from what is seen of a row of the definition is what is seen of the next one
 pub packed_row_of : (n : ℕ) (b : Body) (before : List (List ℤ)) (vs ws : List ℤ) (old new : List (List (PackedHull n))) →
     IsTrue (is_automaton b) → (sides n ≡ BothEnds) ⊎ (b.wide ≡ false) →
     flat_row n (length b.states) (length vs) old ≡ seen_row (sides n) (row_of b before vs) →

@@ -1,4 +1,4 @@
--- Packed rows on top of one another: which rows they are, and what stays so of their states.
+-- Packed rows on top of one another: which rows they are, and what still holds of their states.
 use lib.Pointwise.{pointwise}
 use Rattle.std.proofs.Common.{◌≡◌, ℕ, suc, ◌+◌, ◌*◌, ◌/◌, ◌<◌, ◌≤◌, ◌⊎◌, inl, inr, ℤ, List, [], ◌∷◌, ◌++◌, length, take, reverse, get_or, Bool, true, false, not, refl, sym, ap, ◌∙◌, subst, arith}
 use Rattle.std.specs.Ordering.{int_eq}
@@ -66,7 +66,7 @@ made_row a p before values row is form made =
           ∙ ap (λ s. seen_row s (row_of a before values)) (ends_are p row form),
     )
 
--- one just made shows all of them
+-- a row just made shows all of its values
 pub fresh_made : (a : Body) (p : Planned) (before : Box) (values : List ℤ) (r : HullRow) (hulls : List Hull) → IsPlanned a p →
     IsFresh (length values) r → IsRowOf a before values r.packed → HasStates p r.packed × (hulls_in p.states r.packed ≡ hulls) →
     IsLaid p r × (hulls_in p.states (shown r) ≡ hulls)
@@ -114,7 +114,7 @@ module _ (a : Body) (cells : Box) (rows : Rows) (p : Planned) (i : ℕ) (before_
   abbrev seen_behind : Box → List ℤ → List Hull
   seen_behind z values = seen_row (form_sides p.form) (row_of a z values)
 
-  -- the row before it
+  -- the row of the cell before
   pub packed_before : IsRowOf a (reverse (take i cells)) before_values before
   packed_before =
       packed_row a p (reverse (take i cells)) before_values before is states

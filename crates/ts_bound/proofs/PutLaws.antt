@@ -60,7 +60,7 @@ pub entry_done : (m : Move) (l : Letter) (s q : ℕ) (vs : List ℤ) (row : List
 unfolding move_entry
 entry_done m l s q vs row w i h same e = e ∙ ap (λ n. total n (pair_gives m l s q vs row w)) same
 
--- and the next values, one after the other
+-- what a move gives is put into the next values, one after the other
 
 pub puts_begun : (s to : ℕ) (order : ℕ → ℕ) (f : ℕ → Hull) (first : List Hull) → first ≡ puts s to order f first 0
 unfolding puts
@@ -77,7 +77,7 @@ puts_more s to order f first next next' k j h is inv e step =
     ∙ ap (λ n. set (puts s to order f first k) (n * s + to) (hull_of_both (get_or (puts s to order f first k) (n * s + to) none) (f n))) is
     ∙ sym (ap (puts s to order f first) more)
 
--- the same of a move, with the number of states as the code has it
+-- one more next value takes in a move, with the number of states as the code has it
 pub puts_more_as : (m : Move) (l : Letter) (s s' q : ℕ) (vs : List ℤ) (row : List Hull) (ws : List ℤ) (first next next' : List Hull) (k j : ℕ) (h : Hull) →
     s' ≡ s → j ≡ step_place l (length ws) k → h ≡ move_entry m l s q vs row (get_or ws j (pos 0)) →
     next ≡ puts s m.next (step_place l (length ws)) (λ j. move_entry m l s q vs row (get_or ws j (pos 0))) first k →

@@ -38,7 +38,7 @@ use Rattle.ts_hull.proofs.HullLaws.{IsCanonical, hull_canonical}
 use Rattle.ts_meet.specs.Meets.{hull_of_spans}
 use Rattle.ts_bound.proofs.Looking.{looked_length, place_bounds, place_usable, looked_get, looked_set, looked_miss}
 
--- some element has it
+-- some element has a property
 abbrev pub Any : {A : Type 0} → (A → Type 0) → List A → Type 0
 Any P [] = ⊥
 Any P (x ∷ xs) = P x ⊎ Any P xs
@@ -231,7 +231,7 @@ module _ (m : Automata) (under_mark : HoldsMark m.forward) (cells : List (List �
       subst (λ n. IsInMark m.forward.mark n (answer m.forward xs)) (sym n_is)
       (under_mark xs (subst (λ n. 1 ≤ n) n_is some) (subst (λ n. n ≤ most_cells) n_is few) (within_limits xs cells box inside))
 
-  -- at the last cell, of an automaton alone
+  -- the finish spans at the last cell hold the answer, of an automaton alone
   finish_holds : IsTrue (is_automaton m.forward) → (i : ℕ) → length cells ≡ suc i →
       Any (λ t. Holds t (answer m.forward xs)) (finish_spans m.forward (length cells) (reverse (take i cells)) (get_or xs i (pos 0)))
   unfolding finish_spans
@@ -255,7 +255,7 @@ module _ (m : Automata) (under_mark : HoldsMark m.forward) (cells : List (List �
       any_range (λ t. Holds t (answer b xs)) (λ q. finish_span_of b (standing_in b (reverse (take i cells)) x q) n) 0 (length b.states) s.state (omega arith)
       (let l = h.0 in omega (arith, l)) (subst (Holds (finish_span_of b (standing_in b (reverse (take i cells)) x s.state) n)) e one)
 
-  -- at any cell, of a pair
+  -- the glued spans at any cell hold the answer, where there is a pair
   glued_hold : IsTrue (is_automaton m.forward) → (p : Pair) → Splits m.forward p → (i : ℕ) → i < length cells →
       Any (λ t. Holds t (answer m.forward xs)) (glued_spans p (length cells) (reverse (take i cells)) (drop (suc i) cells) (get_or xs i (pos 0)))
   unfolding glued_spans

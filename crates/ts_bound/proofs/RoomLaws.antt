@@ -7,7 +7,7 @@ use Rattle.ts_bound.specs.TermSpans.{Automata, automata_of}
 use Rattle.ts_glue.specs.declared.machine.Machine.{Machine}
 use Rattle.ts_bound.specs.Room.{bytes_at, bytes_from, counted_at, saturated, values_from}
 
--- one by one they make what all make at once
+-- sums made one by one are the sum of all at once
 
 one_more : (p q a r : ℕ) → a ≡ saturated p → r ≡ saturated (a + q) → r ≡ saturated (p + q)
 one_more p q a r x z = omega (arith, x, z)

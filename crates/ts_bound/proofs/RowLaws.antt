@@ -119,14 +119,14 @@ pub row_written : {X : Type 0} (t : List (List X)) (i : ℕ) (ws : List X) → i
     with_written t i ws ≡ set t i ws
 row_written t i ws h e = written t (set t i ws) i ws (same_set t t i ws (same_self t) e) (over_row t i ws h e)
 
--- the same for two rows one after the other
+-- two rows that are as long, one after the other, stand in their places, and every other row stays
 pub two_written : {X : Type 0} (t : List (List X)) (i : ℕ) (a b : List X) → suc i < length t → length a ≡ length (get_or t i []) →
     length b ≡ length (get_or t (suc i) []) →
     with_written t i (a ++ b) ≡ set (set t i a) (suc i) b
 two_written t i a b h e f =
     written t (set (set t i a) (suc i) b) i (a ++ b) (same_set t (set t i a) (suc i) b (same_set t t i a (same_self t) e) f) (over_two t i a b h e f)
 
--- so of the rows of cells k and k + 1
+-- the rows of cells k and k + 1, written as one, stand in their places
 pub rows_written : {X : Type 0} (t : List (List X)) (k : ℕ) (a b : List X) → 1 ≤ k → k + 1 ≤ length t → length a ≡ length (row_at k t) →
     length b ≡ length (row_at (k + 1) t) → with_written t (k - 1) (a ++ b) ≡ set (set t (k - 1) a) k b
 rows_written t k a b some few e f =

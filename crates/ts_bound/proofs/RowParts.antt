@@ -91,7 +91,7 @@ middle_gone xs a b f t le within =
     ∙ ap (λ l. l ++ take r (drop t ys)) (sym (take-take f (b - a) ys (omega (arith, le, within))))
     ∙ ap (λ l. take f (take (b - a) ys) ++ l) (sym (rest_of_front ys (b - a) t))
 
--- of columns, and of a row
+-- columns, and a row, without some of their places
 
 map_alike : {X Y : Type 0} (f g : X → Y) → ((x : X) → f x ≡ g x) → (xs : List X) → map f xs ≡ map g xs
 map_alike f g h [] = refl

@@ -281,7 +281,7 @@ with_states_canonical a vs row ws (suc n) next h =
     (with_move_canonical (move_at a n Equal) Equal s n vs row ws n1 n2 refl
     (with_move_canonical (move_at a n Less) Less s n vs row ws n0 n1 refl (with_states_canonical a vs row ws n next h)))
 
--- so far it is a row of the next cell, into which moves can be taken
+-- the row that is filled so far is a row of the next cell, into which moves can be taken
 pub states_next : (a : Body) (vs : List ℤ) (row : List Hull) (ws : List ℤ) (n : ℕ) (first next : List Hull) → length first ≡ length ws * length a.states →
     ((p : ℕ) → get_or first p none ≡ none) → next ≡ with_states a vs row ws n first → AllTakeNone next × (length next ≡ length ws * length a.states)
 states_next a vs row ws n first next long clear e = (
@@ -290,7 +290,7 @@ states_next a vs row ws n first next long clear e = (
   ap length e ∙ length-with_states a vs row ws n first ∙ long,
 )
 
--- with one more move it stays so
+-- a row of the next cell that took in one more move stays one
 pub move_next : (m : Move) (l : Letter) (s q : ℕ) (vs : List ℤ) (row : List Hull) (ws : List ℤ) (first next : List Hull) →
     AllTakeNone first × (length first ≡ length ws * s) → next ≡ with_move m l s q vs row ws first → AllTakeNone next × (length next ≡ length ws * s)
 move_next m l s q vs row ws first next h e = (

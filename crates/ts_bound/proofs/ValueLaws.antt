@@ -102,7 +102,7 @@ last_is vs high n long r has all =
     subst (λ (k : ℕ). (get_or vs p.0 (pos 0) +ℤ pos (n - p.0)) ≤ℤ get_or vs k (pos 0)) at (apart vs r p.0 (n - p.0) (omega (arith, long, at))) in
     omega (arith, ints, a, b, e)
 
--- where the first and the last of them leave no gap, each is as far from the first as its place says
+-- where the first and the last value of a domain leave no gap, each is as far from the first as its place says
 domain_run : (vs : List ℤ) (count : ℕ) (low high : ℤ) → IsDomain vs → count ≡ length vs → Contains vs low → Contains vs high →
     ((v : ℤ) → Contains vs v → (low ≤ℤ v) × (v ≤ℤ high)) → high +ℤ pos 1 ≡ low +ℤ pos count → (i : ℕ) → i < length vs →
     (low +ℤ pos i) ≡ get_or vs i (pos 0)
@@ -115,7 +115,7 @@ domain_run vs count low high d is has has' all far i lt =
     ap (λ z. z +ℤ pos i) (sym a)
     ∙ run_at vs r n i (n - i) (omega (arith, is, lt)) (omega (arith, is, lt)) whole
 
--- the same with the two numbers as the code has them
+-- the values of a domain without gaps, with the first and the last one as the code has them
 pub domain_run_from : (vs : List ℤ) (count : ℕ) (low low' high high' : ℤ) → low' ≡ low → high' ≡ high → IsDomain vs → count ≡ length vs →
     Contains vs low → Contains vs high → ((v : ℤ) → Contains vs v → (low ≤ℤ v) × (v ≤ℤ high)) → high' +ℤ pos 1 ≡ low' +ℤ pos count →
     (i : ℕ) → i < length vs → (low' +ℤ pos i) ≡ get_or vs i (pos 0)

@@ -74,7 +74,7 @@ map_without : {X Y : Type 0} (f : X → Y) (xs : List X) (i j : ℕ) → remove_
 map_without f xs i j =
     ap (λ l. l ++ drop j (map f xs)) (take-map f i xs) ∙ ap (λ l. map f (take i xs) ++ l) (drop-map f j xs) ∙ sym (map-append f (take i xs) (drop j xs))
 
--- and so is what is seen of them
+-- what is seen of the row of a cell that has lost values
 pub row_lost : (ends : Sides) (a : Body) (before : Box) (values : List ℤ) (i j : ℕ) →
     remove_range (seen_row ends (row_of a before values)) (i * length a.states) (j * length a.states)
     ≡ seen_row ends (row_of a before (remove_range values i j))
@@ -254,7 +254,7 @@ module _ (n s f t k : ℕ) (old : List (List (PackedHull n))) (h : IsRow n s k o
       ∙ ap (at_places n s old) (sym (front_places (0 + f) (k - f) (t - f)) ∙ ap (take (t - f)) (sym (rest_places 0 k f)))
       ∙ sym (parts_slice at s (λ i. length-map-range_with_len (λ q. hull_in n old q i) 0 s) (range_with_len 0 k) f t)
 
--- the row that shows them
+-- the row that shows some places of a packed row
 
 part_of : (n s f t : ℕ) (old : List (List (PackedHull n))) → IsRow n s (length (get_or old 0 [])) old → f ≤ t → t ≤ length (get_or old 0 []) →
     IsRow n s (length (get_or (columns_part f t old) 0 [])) (columns_part f t old)
@@ -284,7 +284,7 @@ count_in_column f t old order inside =
     let k = length (get_or old 0 []) in
     ap length (column_without f t old 0) ∙ (let both = count_without (get_or old 0 []) k f t refl in omega (arith, both, order, inside))
 
--- as a stack holds it
+-- a packed row without some places, as a stack holds it
 
 left_of : (n s f t : ℕ) (old : List (List (PackedHull n))) → IsRow n s (length (get_or old 0 [])) old →
     IsRow n s (length (get_or (columns_without f t old) 0 [])) (columns_without f t old)
@@ -305,7 +305,7 @@ made_without p f t (Upper row) h = let l = left_of 3 p.states f t row h.is_row i
 made_without p f t (Lower row) h = let l = left_of 4 p.states f t row h.is_row in (record { form = h.form; is_row = l.0 }, l.1)
 made_without p f t (Wide row) h = let l = left_of 10 p.states f t row h.is_row in (record { form = h.form; is_row = l.0 }, l.1)
 
--- how many values it has then
+-- how many values a row has without those of some places
 pub count_left : (f t : ℕ) (row : AnyRow) → f ≤ t → t ≤ values_in row → values_in (row_without f t row) ≡ values_in row - (t - f)
 count_left f t (Narrow row) order inside = count_in_column f t row order inside
 count_left f t (Upper row) order inside = count_in_column f t row order inside

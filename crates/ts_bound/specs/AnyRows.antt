@@ -28,7 +28,7 @@ form_lanes UpperForm = 3
 form_lanes LowerForm = 4
 form_lanes WideForm = 10
 
--- the ends that they show
+-- the ends that hulls of each form show
 abbrev pub form_sides : Form → Sides
 form_sides f = sides (form_lanes f)
 
@@ -47,14 +47,14 @@ form_of (Upper row) = UpperForm
 form_of (Lower row) = LowerForm
 form_of (Wide row) = WideForm
 
--- how many lanes its hulls have
+-- how many lanes the hulls of a row have
 abbrev pub lanes_of : AnyRow → ℕ
 lanes_of (Narrow row) = 6
 lanes_of (Upper row) = 3
 lanes_of (Lower row) = 4
 lanes_of (Wide row) = 10
 
--- its columns
+-- the columns of a row
 abbrev pub columns : (row : AnyRow) → Columns (lanes_of row)
 columns (Narrow row) = row
 columns (Upper row) = row

@@ -53,7 +53,7 @@ pub record DifferFrom (first last n : ℕ) (cells later : Box) : Type 0 where
   pub before : take first later ≡ take first cells
   pub behind : drop last later ≡ drop last cells
 
--- the cells change so
+-- the cells change as the change says
 pub record IsChange (c : Change) (cells later : Box) : Type 0 where
   pub differ : DifferFrom c.first c.last c.count cells later
   pub gone_first : AreLost c.gone_first (get_or cells c.first []) (get_or later c.first [])

@@ -45,7 +45,7 @@ rows_behind b before (values ∷ cells) = row_of b before values ∷ rows_behind
 abbrev pub forward_rows : Body → List (List ℤ) → List (List Hull)
 forward_rows b cells = rows_behind b [] cells
 
--- for one that reads them from the last to the first
+-- the row of each cell, for an automaton that reads the cells from the last to the first
 unfoldable pub backward_rows : Body → List (List ℤ) → List (List Hull)
 backward_rows b [] = []
 backward_rows b (values ∷ cells) = row_of b cells values ∷ backward_rows b cells

@@ -10,7 +10,8 @@ use Rattle.ts_bound.specs.Rows.{with_written}
 abbrev pub LendsRow : MutBor (List (List Hull)) → ℕ → MutBor (List Hull) → Fml
 LendsRow t k r = Lends the_row (Array hull.the_row 0) t r (with_written t.now (k - 1))
 
--- with the rows of cells k and k + 1 as they were left (`TwoWrittenRowsAreSet`)
+-- the table ends with the rows of cells k and k + 1 as they were left, and every other row as it was
+-- (`TwoWrittenRowsAreSet`)
 abbrev pub LendsTwo : MutBor (List (List Hull)) → ℕ → MutBor (List Hull) × MutBor (List Hull) → Fml
 LendsTwo t k r =
     LendsBoth the_row (Array hull.the_row 0) (Array hull.the_row 0) t r (λ a b. with_written t.now (k - 1) (a ++ b))

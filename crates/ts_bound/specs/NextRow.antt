@@ -23,7 +23,7 @@ pub record Source : Type 0 where
 abbrev pub source : ℤ → ℕ → Hull → Source
 source v q h = record { value = v; state = q; hull = h }
 
--- where runs stand that come from there: the state, with the spans of the hull
+-- where runs stand that come from a source: the state, with the spans of the hull
 abbrev pub standing_at : Source → Standing Span
 standing_at s = record { state = s.state; regs = spans_of s.hull }
 
@@ -37,7 +37,7 @@ unfoldable pub sources : ℕ → List ℤ → List Hull → List Source
 sources n [] row = []
 sources n (v ∷ vs) row = sources_from v 0 (take n row) ++ sources n vs (drop n row)
 
--- what a hull gives to the state q at the next value w: its move, where that leads to q, else none
+-- what a hull gives to the state q at the next value w: what its move makes of it, where that leads to q, else none
 unfoldable pub hull_from : Body → ℤ → ℕ → Source → Hull
 hull_from b w q s =
     let to = span_step b (standing_at s) s.value w in

@@ -7,18 +7,18 @@ use Rattle.ts_bound.specs.declared.gone.Gone.{Gone}
 use Rattle.ts_bound.specs.declared.gone.Other.{Other}
 use Rattle.ts_bound.specs.Gone.{AreLost}
 
--- none of them is at place i
+-- none of the others is at place i
 abbrev pub IsElsewhere : List Other → ℕ → Type 0
 IsElsewhere others i = All (λ o. o.at ≢ i) others
 
--- of as many cells the others are as before, and these have lost the values that are said to be gone
+-- two boxes with as many cells differ in the others alone, and these have lost the values that are said to be gone
 pub record AreOthers (others : List Other) (cells later : Box) : Type 0 where
   pub count : length later ≡ length cells
   pub within : All (λ o. o.at < length cells) others
   pub same : (i : ℕ) → IsElsewhere others i → get_or later i [] ≡ get_or cells i []
   pub lost : All (λ o. AreLost o.gone (get_or cells o.at []) (get_or later o.at [])) others
 
--- one is at this place, and has lost these values
+-- one of the others is at this place, and has lost these values
 abbrev pub HasLost : List Other → ℕ → Option Gone → Type 0
 HasLost others at gone = Contains others (record { at = at; gone = gone })
 
@@ -29,7 +29,7 @@ pub record Covers (from to : ℕ) (others : List Other) (c : Change) : Type 0 wh
   pub first : HasLost others (from + c.first) c.gone_first
   pub last : HasLost others (from + c.last - 1) c.gone_last
 
--- it is, or none of them is there
+-- the change, if there is one, is that of the others at the places from `from` up to `to`; else none of them is there
 abbrev pub IsCovered : (from to : ℕ) → List Other → Option Change → Type 0
 IsCovered from to others None = All (λ o. (o.at < from) ⊎ (to ≤ o.at)) others
 IsCovered from to others (Some c) = Covers from to others c

@@ -12,7 +12,7 @@ use Rattle.ts_bound.specs.declared.any_row.AnyRow.{AnyRow}
 use Rattle.ts_bound.specs.declared.reading.Direction.{Direction}
 use Rattle.ts_bound.specs.declared.reading.Direction.TheVariants.{FromFirst, FromLast}
 
--- a row of so many states with both ends of each register
+-- a row of `states` states with both ends of each register
 pub record IsPlain (states : ℕ) (row : AnyRow) : Type 0 where
   pub both : form_sides (form_of row) ≡ BothEnds
   pub some : 0 < states

@@ -6,7 +6,7 @@ use Rattle.ts_bound.specs.declared.reading.Reading.{Reading}
 use Rattle.ts_bound.specs.declared.reading.Direction.{Direction}
 use Rattle.ts_bound.specs.declared.reading.Direction.TheVariants.{FromFirst, FromLast}
 
--- the cells in that order
+-- the cells of a box in the order in which they are read
 abbrev pub in_order : Direction → Box → Box
 in_order FromFirst b = b
 in_order FromLast b = reverse b

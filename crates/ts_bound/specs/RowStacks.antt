@@ -46,12 +46,12 @@ pub record IsPlanned (a : Body) (p : Planned) : Type 0 where
 abbrev pub values_in : AnyRow → ℕ
 values_in row = length (get_or (columns row) 0 [])
 
--- it has the states and the form that are planned
+-- a row has the states and the form that are planned
 pub record HasStates (p : Planned) (row : AnyRow) : Type 0 where
   pub form : form_of row ≡ p.form
   pub is_row : IsRow (lanes_of row) p.states (values_in row) (columns row)
 
--- its hulls in a list, value by value, where it has so many states
+-- the hulls of a row with this many states in a list, value by value
 abbrev pub hulls_in : ℕ → AnyRow → List Hull
 hulls_in states row = flat_row (lanes_of row) states (values_in row) (columns row)
 
@@ -148,7 +148,7 @@ pub record Stands (row : List Hull) (s : Stack) : Type 0 where
   pub same : get_or s.laid.rows (length s.known) [] ≡ row
   pub from : s.laid.from ≤ length s.known
 
--- the row is known too, and this is kept of it
+-- the row is known too, and `here` is kept of it
 pub record IsOneMore (row : List Hull) (here : Kept) (old new : Stack) : Type 0 where
   pub planned : new.planned ≡ old.planned
   pub known : new.known ≡ old.known ++ row ∷ []
@@ -159,7 +159,7 @@ pub record IsOneMore (row : List Hull) (here : Kept) (old new : Stack) : Type 0 
   pub kept : kept_at new.kept (length old.known) ≡ here
   pub others : (i : ℕ) → i ≢ length old.known → kept_at new.kept i ≡ kept_at old.kept i
 
--- what was kept is, up to place `count`
+-- what was kept up to place `count` is still kept, and nothing beyond
 pub record IsForgotten (count : ℕ) (old new : Stack) : Type 0 where
   pub planned : new.planned ≡ old.planned
   pub known : new.known ≡ old.known
@@ -167,7 +167,8 @@ pub record IsForgotten (count : ℕ) (old new : Stack) : Type 0 where
   pub kept : (i : ℕ) → i ≤ count → kept_at new.kept i ≡ kept_at old.kept i
   pub none : NoneKept (count + 1) new.kept
 
--- only the first `count` are known still; from `end` on the rows go on as before; what was kept is, up to place `count`
+-- only the first `count` rows are still known; from `end` on the rows go on as before; what was kept up to `count`
+-- stays
 pub record IsTruncated (count end : ℕ) (old new : Stack) : Type 0 where
   pub planned : new.planned ≡ old.planned
   pub known : new.known ≡ take count old.known
@@ -177,7 +178,7 @@ pub record IsTruncated (count end : ℕ) (old new : Stack) : Type 0 where
   pub kept : (i : ℕ) → i ≤ count → kept_at new.kept i ≡ kept_at old.kept i
   pub none : NoneKept (count + 1) new.kept
 
--- a row with hulls of so many states, without those of the values that are gone
+-- a row with hulls of `states` states, without those of the values that are gone
 abbrev pub without : (states : ℕ) → Gone → List Hull → List Hull
 without states g row = remove_range row (g.from * states) (g.to * states)
 
@@ -233,13 +234,13 @@ pub record IsShown (now : List ℤ) (old new : Stack) : Type 0 where
 abbrev pub MayShow : (now : List ℤ) → (old new : Stack) → Type 0
 MayShow now old new = (new ≡ old) ⊎ IsShown now old new
 
--- only the first `count` are known still, and perhaps the next one, whose hulls for its values `now` were kept
+-- only the first `count` rows are still known, and perhaps the next one, whose hulls for its values `now` were kept
 pub record IsRestored (count end : ℕ) (now : List ℤ) (old new : Stack) : Type 0 where
   pub cut : Stack
   pub is_cut : IsTruncated count end old cut
   pub more : (new ≡ cut) ⊎ ((length cut.known ≡ count) × IsShown now cut new)
 
--- only the first `count` rows are known still. The next one's cell had the values `before` and has the values `now`:
+-- only the first `count` rows are still known. The next one's cell had the values `before` and has the values `now`:
 -- where it is known which it has lost, that row may be known too, without those; or where its hulls are kept
 abbrev pub IsLeft : (count end : ℕ) → Option Gone → (before now : List ℤ) → (old new : Stack) → Type 0
 IsLeft count end None before now old new = IsRestored count end now old new

@@ -7,7 +7,7 @@ use Rattle.ts_bound.specs.declared.row_stack.HullRow.{HullRow}
 use Rattle.ts_bound.specs.AnyRows.{row_without}
 use Rattle.ts_bound.specs.RowStacks.{IsFilled, IsLaid, IsLessened, Kept, all_hulls, all_kept, hulls_in, kept_at, kept_in, shown}
 
--- it shows the hulls of all its values, and none of these are kept
+-- a row shows the hulls of all its values, and keeps none of these
 pub record IsFresh (n : ℕ) (r : HullRow) : Type 0 where
   pub count : r.count ≡ n
   pub from : r.from ≡ 0
@@ -23,13 +23,13 @@ pub record HasKept (before : List ℤ) (old new : HullRow) : Type 0 where
   pub values : (new.values.items ≡ old.values.items)
       ⊎ ((new.values.items ≡ before) × (old.from ≡ 0) × (old.to ≡ old.count))
 
--- it shows what it showed without the values that are gone; of what is kept these may be gone too
+-- a row shows what it showed without the values that are gone; of what it keeps these may be gone too
 pub record HasLess (gone : Gone) (old new : HullRow) : Type 0 where
   pub hulls : shown new ≡ row_without gone.from gone.to (shown old)
   pub laid : (p : Planned) → IsLaid p old → IsLaid p new
   pub kept : (p : Planned) → IsLaid p old → IsLessened p.states (kept_in p.states old) (kept_in p.states new)
 
--- it shows what it showed without the values that are gone; of what is kept, which may first become what was shown,
+-- a row shows what it showed without the values that are gone; of what it keeps, which may first become what was shown,
 -- these may be gone too
 pub record HasLost (gone : Gone) (before : List ℤ) (old new : HullRow) : Type 0 where
   pub hulls : shown new ≡ row_without gone.from gone.to (shown old)
@@ -38,7 +38,7 @@ pub record HasLost (gone : Gone) (before : List ℤ) (old new : HullRow) : Type 
       × IsFilled before (hulls_in p.states (shown old)) (kept_in p.states old) filled
       × IsLessened p.states filled (kept_in p.states new)
 
--- it shows the hulls of these values, which are among those that are kept
+-- a row shows the hulls of these values, which are among those that it keeps
 pub record Shows (now : List ℤ) (old new : HullRow) : Type 0 where
   pub packed : new.packed ≡ old.packed
   pub count : new.count ≡ old.count

@@ -20,13 +20,13 @@ unfoldable pub concat_rows : {X : Type 0} → List (List X) → List X
 concat_rows [] = []
 concat_rows (row ∷ rows) = row ++ concat_rows rows
 
--- where row i begins in them, counted from 0
+-- where row i, counted from 0, begins in the list of all
 unfoldable pub place : {X : Type 0} → List (List X) → ℕ → ℕ
 place [] i = 0
 place (row ∷ rows) zero = 0
 place (row ∷ rows) (suc i) = length row + place rows i
 
--- a list cut into rows that are as long as those
+-- a list cut into rows that are as long as those given
 unfoldable pub cut_like : {X : Type 0} → List (List X) → List X → List (List X)
 cut_like [] xs = []
 cut_like (row ∷ rows) xs = take (length row) xs ∷ cut_like rows (drop (length row) xs)

@@ -44,8 +44,8 @@ fn take_values(values: &mut Vec<i64>, domain: &Domain) -> Result<(), Memory>
     }
 }
 
-/// Puts the values of a domain into a list, in its memory: `count` values from `low` on, with gaps or without. After
-/// `Memory` the list is empty.
+/// Puts `count` values of a domain from `low` on, with gaps or without, into a list, in its memory. After `Memory` the
+/// list is empty.
 fn take_all(
     values: &mut Vec<i64>,
     domain: &Domain,

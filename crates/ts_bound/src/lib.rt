@@ -3,16 +3,16 @@
 //!
 //! A box has a set of values for each cell. For each cell, each of its values and each state a table has one hull,
 //! which holds the registers of every run of an automaton that stands there. The layer above may rely on this: a table
-//! is exactly the one of the definition, whatever way its rows are filled; a span is exactly the hull of what its hulls
-//! tell, and holds the answer of the machine on every series of the box; and the span of the box with one value alone
+//! is exactly the one of the definition, however its rows are filled; a span is exactly the hull of what its hulls
+//! show, and holds the answer of the machine on every series of the box; and the span of the box with one value alone
 //! at a cell is read off the tables of the whole box. A machine with a window has rows at the window's cells alone; at
 //! a cell outside it has the span of the window's last cell.
 //!
-//! A `RowStack` has the same rows packed, with the ends of registers that a question needs. It is told what of a box
-//! changes: rows that the change doesn't reach stay known, and so do those after a row that comes out as it was; where
-//! a cell only lost values, its row shows the others, and shows lost ones again once they are back. Rows that are known
-//! are exactly those of the box. Nothing here knows of bounds or requirements: what is asked of the numbers of a span
-//! comes from above.
+//! A `RowStack` has the same rows packed, with the ends of registers that a question needs. It is told which cells of a
+//! box change: rows that the change doesn't reach stay known, and so do those after a row that comes out as it was;
+//! where a cell only lost values, its row shows the others, and shows lost ones again once they are back. Rows that are
+//! known are exactly those of the box. Nothing here knows of bounds or requirements: what is asked of the numbers of a
+//! span comes from above.
 //!
 //! ```text
 //! let ahead = forward(alloc, &machine, &cells)?;

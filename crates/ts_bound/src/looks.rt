@@ -36,7 +36,7 @@ pub fn is_looked(window: Option<Range>, k: u32) -> bool
     }
 }
 
-/// The cell whose rows tell what is asked of cell `k`: itself, or for a cell outside the window the window's last one.
+/// The cell whose rows show what is asked of cell `k`: itself, or for a cell outside the window the window's last one.
 pub fn read_at(window: Option<Range>, k: u32) -> u32
     ensures { result ≡ read_at window k }
 {

@@ -20,7 +20,7 @@ pub struct Others {
 }
 
 impl Others {
-    /// None.
+    /// No cells.
     pub fn none(alloc: Global) -> Others
         ensures { result.each.items ≡ [] }
     {
@@ -30,7 +30,7 @@ impl Others {
         }
     }
 
-    /// Finds those of the box. Each cell is compared once.
+    /// Finds the cells of the box that may not be as they were seen. Each cell is compared once.
     pub fn find(&mut self, seen: &[Domain], cells: &Boxed) -> Result<(), Memory>
         requires { length seen.now ≡ length cells.now.present }
         ensures { OnOk result (AreOthers self.new.each.items seen.now cells.now.present) }

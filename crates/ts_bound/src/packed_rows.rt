@@ -12,7 +12,7 @@ use ts_automaton::Automaton;
 use ts_base::Memory;
 use ts_row::{Cell, PackedRow, Plan, RowView, next_row, start_row};
 
-/// Makes of `row` that of the cell at which runs start, in the same memory. After `Memory` it holds whatever hulls.
+/// Makes of `row` that of the cell at which runs start, in the same memory. After `Memory` its hulls are unspecified.
 pub fn first_packed_row<const N: usize>(
     alloc: Global,
     a: &Automaton,
@@ -29,7 +29,7 @@ pub fn first_packed_row<const N: usize>(
 }
 
 /// Makes of `next` the row of a cell, from that of the cell before, whatever cells came before that one, in the same
-/// memory. After `Memory` it holds whatever hulls.
+/// memory. After `Memory` its hulls are unspecified.
 pub fn next_packed_row<const N: usize>(
     alloc: Global,
     a: &Automaton,

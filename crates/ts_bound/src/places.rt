@@ -7,7 +7,7 @@ ghost use Rattle.ts_sweep.specs.Small.{AreSmall, Rises};
 use ts_domain::Domain;
 use ts_sweep::values::{Run, Values};
 
-/// The values of a cell in rising order. If they have no gap, as most sets haven't, none has to be searched for.
+/// The values of a cell in rising order. If they have no gap, as in most sets, none has to be searched for.
 #[derive(Clone, Copy)]
 pub(crate) struct Places<'a> {
     pub(crate) domain: &'a Domain,

@@ -11,7 +11,7 @@ use ts_automaton::Hull;
 use ts_row::RowView;
 use ts_sweep::strided::unpacked;
 
-/// Writes the hulls of a row with both ends of each register over others, value by value, for each one of each state.
+/// Writes the hulls of a row with both ends of each register over others: value by value, one for each state.
 pub(crate) fn write_row(view: &AnyView<'_>, states: u8, row: &mut [Hull])
     requires plain { IsPlain states (viewed view.now) }
     requires len { length row.old ≡ length (hulls_in states (viewed view.now)) }
@@ -24,7 +24,7 @@ pub(crate) fn write_row(view: &AnyView<'_>, states: u8, row: &mut [Hull])
     }
 }
 
-/// Writes hulls of so many lanes over others.
+/// Writes hulls of N lanes over others: value by value, one for each state.
 fn write_hulls<const N: usize>(view: &RowView<'_, N>, states: u8, row: &mut [Hull])
     requires registers { 6 ≤ N }
     requires lanes { N ≤ 64 }

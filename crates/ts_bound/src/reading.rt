@@ -44,7 +44,7 @@ impl<'a> Reading<'a> {
         self.cells.cell(self.cell_of_place(i))
     }
 
-    /// The number of that cell.
+    /// The number of the cell that is read at place `i`, counted from 0.
     fn cell_of_place(self, i: usize) -> u32
         requires { i < length (cells_read self) }
         ensures cell { IsCell result self.entry.cells.now }

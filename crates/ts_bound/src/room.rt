@@ -30,8 +30,8 @@ const MOST: u64 = 200_000_000;
 /// made in the same memory.
 pub(crate) const SMALL_ROW: usize = 16;
 
-/// Whether the rows of the machines at the places `named`, counted from 0, of a box with at most these values in its
-/// cells, take no more. A machine with a window has rows of the cells of it alone.
+/// Whether the rows of the machines at the places `named`, counted from 0, take no more than `MOST`, for boxes with at
+/// most these values in their cells. A machine with a window has rows of the window's cells alone.
 pub fn has_room(machines: &[Machine], named: &[u32], cells: &[Domain]) -> bool
     ensures { IsTrue result ↔ (bytes_from named.now 0 (map automata_of machines.now) cells.now ≤ most_bytes) }
 {

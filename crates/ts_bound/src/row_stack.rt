@@ -51,7 +51,7 @@ impl HullRow {
         }
     }
 
-    /// The row, or an empty one where its memory doesn't suit so many values of the form.
+    /// The row, or an empty one where its memory doesn't suit `count` values of the form.
     pub(crate) fn with_room(self, alloc: Global, form: Form, count: usize) -> HullRow
         ensures { form_of result.packed ≡ form }
     {
@@ -140,7 +140,7 @@ fn fresh(packed: AnyRow, room: usize, count: usize, mut values: Vec<i64>) -> Hul
 }
 
 impl HullRow {
-    /// Shows no longer the values that are gone. If all were shown until now, which were those of `before`, these are
+    /// No longer shows the values that are gone. If all were shown until now, which were those of `before`, these are
     /// kept.
     fn shrink(&mut self, gone: Gone, before: &Domain)
         requires from { self.old.from ≤ self.old.to }
@@ -160,7 +160,7 @@ impl HullRow {
         }
     }
 
-    /// Shows no longer the values that are gone. At either end their hulls stay: only what is shown moves. Between
+    /// No longer shows the values that are gone. At either end their hulls stay: only what is shown moves. Between
     /// others their hulls are taken out.
     fn lose(&mut self, gone: Gone)
         requires from { self.old.from ≤ self.old.to }
@@ -222,7 +222,8 @@ fn list(values: &mut Vec<i64>, room: usize, domain: &Domain)
     }
 }
 
-/// Puts the values of a domain into an empty list with room for `room` values. After `Memory` it has whatever values.
+/// Puts the values of a domain into an empty list with room for `room` values. After `Memory` its values are
+/// unspecified.
 fn filled(values: &mut Vec<i64>, room: usize, domain: &Domain) -> Result<(), Memory>
     requires { values.old.items ≡ [] }
     ensures { OnOk result (values.new.items ≡ domain.now) }
@@ -246,7 +247,7 @@ fn leave_out(values: &mut Vec<i64>, from: usize, to: usize)
     }
 }
 
-/// Rows of an automaton, of which the first are known. Those above were known of an earlier box. From place `from` on
+/// Rows of an automaton, of which the first are known. The others were known of an earlier box. From place `from` on
 /// each is still the next row after the one below: where one is right, all above it are. `spare` and `lists` have
 /// memory for the next row and the values that it is made of. All rows have the states of the automaton and one form,
 /// which are kept here alone. From place `kept_to` on no row has kept values.

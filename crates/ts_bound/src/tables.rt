@@ -35,8 +35,8 @@ pub fn forward(alloc: Global, m: &Machine, cells: &Boxed) -> Result<HullTable, M
     table_of(alloc, m.forward(), m.window(), cells, Direction::FromFirst)
 }
 
-/// The hulls of a box for the machine's reverse automaton, which reads these cells from the last to the first. Only for
-/// a machine that can be split.
+/// The hulls of a box for the machine's reverse automaton, which reads the cells from the last to the first, or those
+/// of its window alone. Only for a machine that can be split.
 pub fn backward(alloc: Global, m: &Machine, cells: &Boxed) -> Result<HullTable, Memory>
     requires split { IsSome (pair_of m.now) }
     requires looks { LooksIn (automata_of m.now) cells.now.present }

@@ -17,7 +17,7 @@ pub(crate) struct TwoCells {
 }
 
 impl TwoCells {
-    /// No value yet.
+    /// Lists without values.
     pub(crate) fn empty(alloc: Global) -> TwoCells {
         TwoCells {
             before: CellValues::empty(alloc),

@@ -65,7 +65,7 @@ pair_within n p left right i x cells states k q r lq lr =
     λ e h. between_rises n p left right i x cells states none_span (q + 1) k (omega (arith, lq)) e
     (all e (with_rises n p here right i x cells before (r + 1) states (omega (arith, lr)) e (first e h)))
 
--- what no part of a span lacks, the span doesn't lack
+-- where a pair of states settles a place, the span there has what is asked
 pub settled_has : (Excluded : Span → Type 0) (part : (s t : Span) → IsWithin s t → Excluded t → Excluded s) (n : ℕ) (p : Pair)
     (left right : List (List (PackedHull n))) (i cells : ℕ) (given : Ends) → AreEnough Excluded given → IsSettled n given p left right cells i → (x : ℤ) →
     Excluded (glued_hull n p left right i x cells) → ⊥
@@ -74,7 +74,7 @@ settled_has Excluded part n p left right i cells given enough told x whole =
     enough _ (by.2 x)
     (part _ _ (pair_within n p left right i x cells (length p.reverse.states) (length p.forward.states) told.0 by.0 told.1 by.1) whole)
 
--- nor does a hull lack it of which a part reaches ends that are enough
+-- a hull of which a part reaches ends that are enough has what is asked
 pub part_has : (Excluded : Span → Type 0) (of_part : (s t : Span) → IsWithin s t → Excluded t → Excluded s) (enough : Option Ends) (so_far whole : Span) →
     IfSome enough (AreEnough Excluded) → IsHullUntil enough whole None → Excluded (span_hull so_far whole) → ⊥
 part_has Excluded of_part None so_far whole are reached none = reached
@@ -94,11 +94,11 @@ stands_reaches e given s (inr packs) some reached = record { ends = e; packs = p
 clash : true ≡ false → ⊥
 clash e = cc
 
--- by what is told of a span
+-- a span that isn't found to lack what is asked has it
 not_told : (Excluded : Span → Type 0) (told : Bool) (span part : Span) → span ≡ part → (told ≡ true) ↔ Excluded span → told ≡ false → Excluded part → ⊥
 not_told Excluded told span part is tells isnt none = clash (sym (tells.1 (subst Excluded (sym is) none)) ∙ isnt)
 
--- the whole, by what is told of it
+-- the answer for the whole hull, by what a question says of it
 pub answered : (Excluded : Span → Type 0) (told : Bool) (span both whole so_far : Span) → span ≡ whole → both ≡ span_hull so_far span →
     (told ≡ true) ↔ Excluded both → (told ≡ true → IsAnswer Excluded (span_hull so_far whole) (Some both)) ×
     (told ≡ false → IsAnswer Excluded (span_hull so_far whole) None)
@@ -108,7 +108,7 @@ answered Excluded told span both whole so_far is joined tells =
       λ isnt. not_told Excluded told both (span_hull so_far whole) e tells isnt,
     )
 
--- places that are so, and some more
+-- places at which something holds, and some more
 
 below_or_not : (a b : ℕ) → (a < b) ⊎ (b ≤ a)
 below_or_not a b = grind arith

@@ -1,4 +1,4 @@
--- For crates above: a row that has each of its places, and the spans of a value by whatever else tells the hulls there.
+-- For crates above: a row that has each of its places, and the spans of a value by whatever else gives the hulls there.
 use Rattle.std.proofs.Common.{◌≡◌, ℕ, zero, suc, ◌+◌, ◌≤◌, ◌<◌, ℤ, List, ◌∷◌, ◌++◌, map, refl, ap, ◌∙◌, arith}
 use Rattle.std.specs.Prelude.{flat_map}
 use Rattle.std.specs.List.{range_with_len}
@@ -43,7 +43,7 @@ module _ (n : ℕ) (p : Pair) (i : ℕ) (x : ℤ) (cells : ℕ) where
       map_same (λ r. glued_seen (sides n) p left (standing_in n right r i) x cells) (λ r. glued_seen (sides n) p left (with_hull r (g r)) x cells) 0 m
       (λ r le lt. ap (λ z. glued_seen (sides n) p left (with_hull r z) x cells) (h r (omega (arith, lt))))
 
-  -- the glued spans, where f and g tell the hulls on both sides
+  -- the glued spans, where f and g give the hulls on both sides
   pub spans_are : (left right : List (List (PackedHull n))) (f g : ℕ → Hull) (m k : ℕ) → ((q : ℕ) → q < k → hull_in n left q i ≡ f q) →
       ((r : ℕ) → r < m → hull_in n right r i ≡ g r) →
       spans_between n p left right i x cells m k
@@ -54,7 +54,7 @@ module _ (n : ℕ) (p : Pair) (i : ℕ) (x : ℤ) (cells : ℕ) where
       (λ q. map (λ r. glued_seen (sides n) p (with_hull q (f q)) (with_hull r (g r)) x cells) (range_with_len 0 m)) 0 k
       (λ q le lt. ap (λ z. spans_with n p (with_hull q z) right i x cells m) (h q (omega (arith, lt))) ∙ with_are (with_hull q (f q)) right g m j)
 
--- the finish spans, where f tells the hulls
+-- the finish spans, where f gives the hulls
 pub finishes_are : (n : ℕ) (b : Body) (row : List (List (PackedHull n))) (i cells k : ℕ) (f : ℕ → Hull) → ((q : ℕ) → q < k → hull_in n row q i ≡ f q) →
     finishes_in n b row i cells k ≡ map (λ q. finish_seen (sides n) b (with_hull q (f q)) cells) (range_with_len 0 k)
 unfolding finishes_in

@@ -39,7 +39,7 @@ use Rattle.ts_meet.specs.Joints.{IsFoldPlain, IsHeldPlain, IsOpenPlain, IsPlain,
 use Rattle.ts_meet.specs.SideLaws.{cell_within, far_infinity, near_small}
 use Rattle.ts_meet.specs.Sides.{AreSomeEnds, ArePackOf, IsInfinity, IsNeutral, TakesAny, TakesNear, TakesPlain, is_far, plain_by, plain_values}
 
--- registers alone stand in it
+-- registers alone stand in an expression
 abbrev OfRegisters : Formula → Type 0
 OfRegisters (Leaf C) = Unit {0}
 OfRegisters (Leaf E) = Unit {0}
@@ -54,7 +54,7 @@ OfRegisters (Leaf LowAtom) = ⊥
 OfRegisters (Leaf HighAtom) = ⊥
 OfRegisters (Join o f g) = OfRegisters f × OfRegisters g
 
--- beside these the numbers in it are values of cells
+-- registers and values of cells alone stand in a glue expression
 abbrev AreCells : Glue → Type 0
 AreCells (Left f) = OfRegisters f
 AreCells (Right f) = OfRegisters f
@@ -125,7 +125,7 @@ cells_by : (g : Gluing) (joins : Bool) → IsCellValue g.worth →
 cells_by g true h = ((tt, tt), parts_cells g g.wide h)
 cells_by g false h = apart_cells g.wide g.result
 
--- a gluing, where it is told whether one occurrence goes on
+-- a gluing with another flag for whether one occurrence goes on
 abbrev pub told : Gluing → Bool → Gluing
 told g j = record {
   result = g.result;
@@ -138,7 +138,7 @@ told g j = record {
   held_right = g.held_right;
 }
 
--- ends that are glued so stand for the glued span
+-- what a gluing makes of ends stands for the glued span
 pub glued_packs : (m : Values Ends) (P : Operator → Ends → Ends → Type 0) →
     ((x : ℤ) → IsCellValue x → IsPackOf (m.constant (Int x)) (one_span (Int x))) →
     ((o : Operator) (a b : Ends) (s t : Span) → P o a b → IsPackOf a s → IsPackOf b t → IsPackOf (m.join o a b) (sealed_op o s t)) →
@@ -152,7 +152,7 @@ answer_cells : (wide : Bool) (o : Op) → OfRegisters (result_of wide o)
 answer_cells true o = (tt, (tt, tt))
 answer_cells false o = (tt, tt)
 
--- and what stands so for the answer of a run
+-- what is made of a run's ends for its answer stands for the answer
 pub answer_packs : (m : Values Ends) (P : Operator → Ends → Ends → Type 0) →
     ((x : ℤ) → IsCellValue x → IsPackOf (m.constant (Int x)) (one_span (Int x))) →
     ((o : Operator) (a b : Ends) (s t : Span) → P o a b → IsPackOf a s → IsPackOf b t → IsPackOf (m.join o a b) (sealed_op o s t)) →
@@ -197,7 +197,7 @@ both_taken (Fold Min) i j a b few less p q = tt
 both_taken Sub i j a b few less p q =
     (λ e. are_within i a few p, λ e. never_added (sym e ∙ near_small a (are_within i a few p)), are_within j b less q)
 
--- how many registers and numbers stand in it; that no operand has more than five, where each register stands alone
+-- how many registers and numbers stand in a glue expression; that no operand has more than five, where each register stands alone
 abbrev words : Glue → ℕ
 words (Left f) = 1
 words (Right f) = 1
@@ -218,7 +218,7 @@ IsNarrow (Right f) = IsWord f
 IsNarrow (Number x) = Unit {0}
 IsNarrow (With o u v) = (words u ≤ 5) × (words v ≤ 5) × IsNarrow u × IsNarrow v
 
--- no operator in it adds
+-- no operator in a glue expression adds
 abbrev adds : Operator → Bool
 adds (Fold o) = is_add o
 adds Sub = true
@@ -229,7 +229,7 @@ AddsNever (Right f) = IsWord f
 AddsNever (Number x) = Unit {0}
 AddsNever (With o u v) = (adds o ≡ false) × AddsNever u × AddsNever v
 
--- nothing is taken away in it
+-- nothing is taken away in a glue expression
 abbrev OfFolds : Glue → Type 0
 OfFolds (Left f) = IsWord f
 OfFolds (Right f) = IsWord f
@@ -346,7 +346,7 @@ open_some Whole s some = some.2
 open_some Away s some = some.3
 
 module _ (a b : EachOf Ends) where
-  -- each register and number in it is small
+  -- each register and number in a glue expression is small
   abbrev AreSmallIn : Glue → Type 0
   AreSmallIn (Left f) = AreWithin 1 (value_in plain_values a (pos 0) (pos 0) f)
   AreSmallIn (Right f) = AreWithin 1 (value_in plain_values b (pos 0) (pos 0) f)
@@ -775,7 +775,7 @@ goes_on_is p q r = go (is_join p.table q r)
 pub none_goes_on : (p : Pair) (q r : ℕ) (s : Shape) → s ≡ shape_of p q r → s ≡ NoJoin → is_join p.table q r ≡ false
 none_goes_on p q r s is none = sym (goes_on_is p q r) ∙ ap goes_on (sym is) ∙ ap goes_on none
 
--- between states from the one of which no occurrence goes on to the other the value isn't in it
+-- between states from the one of which no occurrence goes on to the other, the value isn't in the expression
 pub apart_is : (p : Pair) (q r : ℕ) (x : ℤ) (g : Gluing) → g.result ≡ result_op p → g.wide ≡ is_wide p → g.joins ≡ false → is_join p.table q r ≡ false →
     expression g ≡ glue_of p q r x
 apart_is p q r x g e1 e2 e3 none =

@@ -128,7 +128,7 @@ both_are k wide o s t p q =
     folded_is k o (value_in clamped_values s (pos 0) (pos 0) (result_of wide o)) (value_in clamped_values t (pos 0) (pos 0) (result_of wide o))
     (both_added k wide o s t p q)
 
--- by what calls give
+-- numbers that calls give are small enough to be added
 pub added_by : (x y a b : ℤ) → x ≡ a → y ≡ b → AreFewAdded a b → AreFewAdded x y
 added_by x y a b e f few = subst (λ z. AreFewAdded z y) (sym e) (subst (AreFewAdded a) (sym f) few)
 
@@ -227,7 +227,7 @@ end_reached mark n few Below given e h kept s p =
       above = under (int_max (neg_ℤ x) y) packs.some.above;
     }
 
--- so does the span of a pair of states that are apart
+-- the span of a pair of states that are apart reaches an end alone
 zero_cell : IsCellValue (pos 0)
 zero_cell = (grind (arith, ints), grind (arith, ints))
 

@@ -100,7 +100,7 @@ pair_packs z p j q r regs others x cells u e m h some same is glued marked =
     ∙ sym (part_is z p q r regs others x cells some same))
     (marked value glued)
 
--- they are taken in
+-- the glued ends of a pair of states are taken into a hull
 pub pair_taken : (z : Sides) (p : Pair) (j : Joints) (q r : ℕ) (regs others : EachOf Span) (x : ℤ) (cells : ℕ) (u : Glue) (hull e m result : Ends) (s : Span) →
     AreJoints p j → has_registers regs ≡ true → has_registers others ≡ true → u ≡ glue_of p q r x → IsPackOf e (seen z (glue_in sealed_spans regs others u)) →
     ((t : Span) → IsPackOf e t → IsPackOf m (marked_span j.mark cells t)) →
@@ -227,7 +227,7 @@ row_place n states count i row h inside = record {
   packed = λ q lt. (h.columns q lt).1 i inside;
 }
 
--- and each place before another
+-- a row has each place before another
 pub row_places : (n states count to : ℕ) (row : List (List (PackedHull n))) → IsRow n states count row → to ≤ count → HavePlaces n states to row
 row_places n states count to row h inside = record {
   len = h.len;

@@ -168,7 +168,7 @@ module _ (n : ℕ) (p : Pair) (from : ℕ) (values : List ℤ) (cells : ℕ) whe
         (with_along_rises j (get_or left j []) right before count 0 states first)))
         k m le
 
--- and those over the states of the last cell
+-- the loops over the states of the last cell
 
 module _ (n : ℕ) (b : Body) (from cells : ℕ) where
   pub column_none : (q : ℕ) (hulls : List (PackedHull n)) → column_finish n b q hulls from cells 0 ≡ none_span

@@ -81,7 +81,7 @@ names_above s n xs k big h =
 pub pointed_by : (s : Sides) (xs : List ℤ) (k : Name) (e r : Ends) → e ≡ name_ends (as_read s xs) k → r ≡ pointed_ends s e → r ≡ pointed_ends s (name_ends xs k)
 pointed_by s xs k e r is made = made ∙ ap (pointed_ends s) is ∙ pointed_names s xs k
 
--- they stand for a single number or infinity
+-- ends of which one is read as the other stand for a single number or infinity
 
 both_ends : (a b c d : Ext) → a ≡ c → b ≡ d → span_from a b ≡ span_from c d
 both_ends a b c d p q = cc
@@ -138,7 +138,7 @@ shown_packs LowerEnds e t p =
 pub shown_pack : (s : Sides) (e : Ends) (t : Span) → IsPackOf e t → IsPackOf (shown_ends s e) (seen s t)
 shown_pack s e t p = shown_packs s e t (ends_of_pack s e t p)
 
--- one that is kept stays
+-- an end that is kept stays
 pub kept_lane : (s : Sides) (k : End) (e : Ends) → keeps s k ≡ true → lane_at k (shown_ends s e) ≡ lane_at k e
 kept_lane BothEnds k e h = refl
 kept_lane UpperEnds Above e h = refl

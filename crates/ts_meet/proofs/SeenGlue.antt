@@ -62,7 +62,7 @@ value_same s (Join (Fold o) f g) a b n same =
     seen_op s (ext_op o) (op_mono o) _ _ _ _ (value_same s f a b p.0 same) (value_same s g a b p.1 same)
 value_same s (Join Sub f g) a b n same = cc
 
--- neither E nor F nor a difference stands in it
+-- neither E nor F nor a difference stands in a glue expression
 abbrev AreNarrow : Glue → Type 0
 AreNarrow (Left f) = is_narrow f ≡ true
 AreNarrow (Right f) = is_narrow f ≡ true
@@ -135,7 +135,7 @@ glue_pointed s g a b (inl both) =
 glue_pointed s g a b (inr narrow) =
     glue_same s (expression g) _ _ a b (gluing_narrow g g.wide g.joins narrow) (pointed_same s a) (pointed_same s b)
 
--- what they make stands for what is seen of the glued span
+-- what is made of ends that are read as single numbers stands for what is seen of the glued span
 pub shown_glued : (s : Sides) (g : Gluing) (a b : EachOf Span) (e : Ends) → (s ≡ BothEnds) ⊎ (g.wide ≡ false) →
     IsPackOf e (glue_in sealed_spans (pointed_spans s a) (pointed_spans s b) (expression g)) →
     IsPackOf (shown_ends s e) (seen s (glue_in sealed_spans a b (expression g)))
@@ -168,7 +168,7 @@ some_same : (s : Sides) (b : Bool) (t u : Span) → seen s t ≡ seen s u → se
 some_same s true t u e = e
 some_same s false t u e = refl
 
--- a glued span
+-- what is seen of a glued span
 pub glue_span_seen : (s : Sides) (p : Pair) (left right : Standing Span) (x : ℤ) → (s ≡ BothEnds) ⊎ (is_wide p ≡ false) →
     seen s (glue_span_at p (seen_standing s left) (seen_standing s right) x) ≡ seen s (glue_span_at p left right x)
 glue_span_seen s p left right x alone =
@@ -222,13 +222,13 @@ pub finish_for : (s : Sides) (b : Body) → IsTrue (is_automaton b) → (s ≡ B
 finish_for s b rules (inl both) = both_for s b.finish both
 finish_for s b rules (inr narrow) = narrow_for s b.finish (finish_narrow b rules narrow)
 
--- the same is seen of it by ends that are read as single numbers
+-- the same is seen of a finish span by ends that are read as single numbers
 pub finish_pointed : (s : Sides) (b : Body) (a : EachOf Span) → IsTrue (is_automaton b) → (s ≡ BothEnds) ⊎ (b.wide ≡ false) →
     seen s (value_in sealed_spans (pointed_spans s a) (pos 0) (pos 0) b.finish) ≡ seen s (value_in sealed_spans a (pos 0) (pos 0) b.finish)
 finish_pointed s b a rules (inl both) = ap (λ z. seen s (value_in sealed_spans z (pos 0) (pos 0) b.finish)) (all_pointed s a both)
 finish_pointed s b a rules (inr narrow) = value_same s b.finish _ a (finish_narrow b rules narrow) (pointed_same s a)
 
--- so ends that stand for an answer do, where that is the finish expression
+-- ends that stand for an answer stand for what is seen of the finish span, where the answer is the finish expression
 pub answer_shown : (s : Sides) (b : Body) (a : EachOf Span) (f : Formula) (e shown : Ends) → IsTrue (is_automaton b) →
     (s ≡ BothEnds) ⊎ (b.wide ≡ false) → b.finish ≡ f → shown ≡ shown_ends s e →
     IsPackOf e (value_in sealed_spans (pointed_spans s a) (pos 0) (pos 0) f) → IsPackOf shown (seen s (value_in sealed_spans a (pos 0) (pos 0) b.finish))
@@ -237,7 +237,7 @@ answer_shown s b a f e shown rules alone is outer p =
     subst (λ z. IsPackOf z (seen s (value_in sealed_spans a (pos 0) (pos 0) b.finish))) (sym outer)
     (subst (IsPackOf (shown_ends s e)) (finish_pointed s b a rules alone) (shown_pack s e _ q))
 
--- a finish span before the mark
+-- what is seen of a finish span before the mark
 pub finished_span_seen : (s : Sides) (b : Body) (regs : EachOf Span) → IsTrue (is_automaton b) → (s ≡ BothEnds) ⊎ (b.wide ≡ false) →
     seen s (finished_span b (seen_regs s regs)) ≡ seen s (finished_span b regs)
 finished_span_seen s b regs rules alone =

@@ -190,7 +190,7 @@ small_joined g here there a b joins greatest left right s t = record {
     away : AreRestSmall a → AreRestSmall b → IsFoldPlain Away Min g a b
     away u v = record { left_open = u.2; right_open = v.2; left_held = λ h. u.0; right_held = λ h. v.0 }
 
--- hulls of which this is known are taken at each place
+-- hulls of which enough is known are taken at each place
 pub all_taken : (n : ℕ) (o : Op) (g : Gluing) (k l : Watched) (left right : List (PackedHull n)) (from count : ℕ) →
     g.result ≡ o → ((a b : EachOf Ends) → IsKnown g.result k a → IsKnown g.result l b → IsPlain g a b) →
     AreWatched n o k left from count → AreWatched n o l right from count → AreTaken n (IsPlain g) left right from count
@@ -227,7 +227,7 @@ told_taken n here there h t g left right from count e f taken =
 below_or_same : (i k : ℕ) → i < k + 1 → (i < k) ⊎ (i ≡ k)
 below_or_same i k l = grind arith
 
--- the hull that was read at one of so many places is packed
+-- the hull that was read at one of `count` places is packed
 pub hull_there : (n from count i : ℕ) (hulls : List (PackedHull n)) (h : PackedHull n) → ArePlaces n (from + count) hulls → i < count →
     h ≡ get_or hulls (from + i) h → h ≡ get_or hulls (from + i) (nothing n)
 hull_there n from count i hulls h places before is =

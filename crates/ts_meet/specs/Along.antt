@@ -10,7 +10,7 @@ use Rattle.ts_sweep.specs.Sides.{sides}
 use Rattle.ts_meet.specs.Meets.{finish_hull, finish_seen, finishes_in, glued_hull, glued_seen, hull_of_spans, spans_between, spans_with}
 use Rattle.ts_meet.specs.Settled.{with_hull_at}
 
--- the hull of so many spans, counted from 0
+-- the hull of the first `count` spans, counted from 0
 unfoldable pub hull_over : (ℕ → Span) → ℕ → Span
 hull_over f count = hull_of_spans (map f (range_with_len 0 count))
 
@@ -19,7 +19,7 @@ abbrev pub glued_along : (n : ℕ) → Pair → (left right : List (List (Packed
 glued_along n p left right from values cells =
     hull_over (λ i. glued_hull n p left right (from + i) (get_or values i (pos 0)) cells) (length values)
 
--- the hull of the glued spans of one pair of states, at the first m of the places from one on
+-- the hull of the glued spans of one pair of states, at the first m of the places from a given one on
 abbrev pub pair_along :
     (n : ℕ) → Pair → (q r : ℕ) → (left right : List (PackedHull n)) → ℕ → List ℤ → (cells m : ℕ) → Span
 pair_along n p q r left right from values cells m =
@@ -43,11 +43,12 @@ between_along n p left right from values cells k i =
     hull_of_spans
     (spans_between n p left right (from + i) (get_or values i (pos 0)) cells (length p.reverse.states) k)
 
--- the hull of all finish spans at so many places from one on
+-- the hull of all finish spans at `count` places from `from` on
 abbrev pub finish_along : (n : ℕ) → Body → List (List (PackedHull n)) → (from count cells : ℕ) → Span
 finish_along n b row from count cells = hull_over (λ i. finish_hull n b row (from + i) cells) count
 
--- the hull of the finish spans of one state at the first m of these places, and at each place of the first k states
+-- the hull of the finish spans of one state at the first m places from `from` on, and at each place of the first k
+-- states
 abbrev pub column_finish : (n : ℕ) → Body → ℕ → List (PackedHull n) → (from cells m : ℕ) → Span
 column_finish n b q hulls from cells m =
     hull_over (λ i. finish_seen (sides n) b (with_hull_at n q hulls (from + i)) cells) m

@@ -18,7 +18,7 @@ pub record Reaches (given : Ends) (s : Span) : Type 0 where
   pub below : given.below ≤ℤ ends.below
   pub above : given.above ≤ℤ ends.above
 
--- a span that reaches them has what is asked
+-- a span that reaches these ends has what is asked
 abbrev pub AreEnough : (Span → Type 0) → Ends → Type 0
 AreEnough Excluded given = (s : Span) → Reaches given s → Excluded s → ⊥
 

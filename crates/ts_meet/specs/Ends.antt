@@ -36,7 +36,7 @@ lane_folded Above Max x y = int_max x y
 lane_folded Below Min x y = int_max x y
 lane_folded Above Min x y = int_min x y
 
--- numbers that are small enough for it
+-- two numbers are so small that their sum isn't clamped
 abbrev pub AreFewAdded : ℤ → ℤ → Type 0
 AreFewAdded x y = IsWithin 5 x × IsWithin 5 y
 

@@ -69,7 +69,7 @@ IsGluing p q r g = (x : ℤ) → expression (with_worth g (worth p.table.unit x)
 abbrev pub numbered : ℕ → Op
 numbered k = if nat_eq k 0 then Add else if nat_eq k 1 then Max else Min
 
--- and the mark
+-- the mark that has a number
 abbrev pub numbered_mark : ℕ → Mark
 numbered_mark k = if nat_eq k 0 then Same else if nat_eq k 1 then ZeroMark else Cells
 

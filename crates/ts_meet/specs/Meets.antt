@@ -14,7 +14,7 @@ use Rattle.ts_sweep.specs.declared.packed.PackedHull.{PackedHull}
 use Rattle.ts_sweep.specs.Packed.{IsPacked}
 use Rattle.ts_sweep.specs.Sides.{Sides, lane_count, seen, sides}
 
--- there is a packed hull for each of so many states at place i of a row
+-- there is a packed hull for each of `states` states at place i of a row
 pub record HasPlace (n states i : ℕ) (row : List (List (PackedHull n))) : Type 0 where
   pub len : length row ≡ states
   pub inside : (q : ℕ) → q < states → i < length (get_or row q [])

@@ -60,13 +60,14 @@ ArePlainHeld here there g a b =
 abbrev pub IsSmall : Op → Bool → EachOf Ends → Type 0
 IsSmall o held a = AreRestSmall a × IsHeldBy true o held a.c × (is_add o ≡ true → ArePlain a.r)
 
--- this is known of registers whose results an operator joins
+-- what is known of a column holds of registers whose results an operator joins
 abbrev pub IsKnown : Op → Watched → EachOf Ends → Type 0
 IsKnown o Nothing a = Unit {0}
 IsKnown o (Narrow k) a = IsUnder k a
 IsKnown o (Wide held) a = IsSmall o held a
 
--- it holds of the registers of a hull, if they lie in it; of those of the hulls at so many places from one on
+-- something holds of the registers of a hull, if they lie in it; and of those of the hulls at `count` places from
+-- `from` on
 abbrev pub HoldsInHull : (n : ℕ) → (EachOf Ends → Type 0) → PackedHull n → Type 0
 HoldsInHull n Holds h = some_lanes (lanes_of n h) ≡ true → Holds (side_of (sides n) (lanes_of n h))
 
@@ -83,7 +84,7 @@ AreAllSmall n o held = HoldsInHulls n (IsSmall o held)
 abbrev pub AreWatched : (n : ℕ) → Op → Watched → List (PackedHull n) → (from count : ℕ) → Type 0
 AreWatched n o k = HoldsInHulls n (IsKnown o k)
 
--- what a way to glue takes, if registers lie in both hulls; so at so many places from one on
+-- a way to glue takes two hulls, if registers lie in both; and those at `count` places from `from` on of two columns
 abbrev pub IsTaken : (n : ℕ) → (EachOf Ends → EachOf Ends → Type 0) → (left right : PackedHull n) → Type 0
 IsTaken n Takes left right =
     some_lanes (lanes_of n left) ≡ true → some_lanes (lanes_of n right) ≡ true →

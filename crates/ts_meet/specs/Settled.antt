@@ -12,17 +12,17 @@ use Rattle.ts_sweep.specs.Sides.{Sides, lane_count, sides}
 use Rattle.ts_meet.specs.Asked.{Reaches}
 use Rattle.ts_meet.specs.Meets.{glued_seen, standing}
 
--- each place from a on, before b, is so
+-- something holds at each place from a on, before b
 abbrev pub Between : (a b : ℕ) → (ℕ → Type 0) → Type 0
 Between a b Is = (i : ℕ) → a ≤ i → i < b → Is i
 
--- there is a packed hull at each of the places before one
+-- there is a packed hull at each place before `to`
 abbrev pub ArePlaces : (n to : ℕ) → List (PackedHull n) → Type 0
 ArePlaces n to hulls =
     (to ≤ length hulls)
     × ((i : ℕ) → i < to → IsPacked (lane_count n) (lanes_of n (get_or hulls i (nothing n))))
 
--- in the column of each of so many states there is a packed hull at each of the places before one
+-- in the column of each of `states` states there is a packed hull at each place before `to`
 pub record HavePlaces (n states to : ℕ) (row : List (List (PackedHull n))) : Type 0 where
   pub len : length row ≡ states
   pub places : (q : ℕ) → q < states → ArePlaces n to (get_or row q [])
@@ -44,7 +44,8 @@ abbrev pub IsSettledBy :
 IsSettledBy n given p q r left right cells i =
     AlwaysReaches (sides n) given p (with_hull_at n q left i) (with_hull_at n r right i) cells
 
--- the span of q with some state on the right always reaches them; that of some state on the left with one on the right
+-- the span of q with some state on the right always reaches the ends; that of some state on the left with one on the
+-- right
 abbrev pub IsSettledBySome :
     (n : ℕ) → Ends → Pair → ℕ → List (PackedHull n) → List (List (PackedHull n)) → (cells i : ℕ) → Type 0
 IsSettledBySome n given p q left right cells i =

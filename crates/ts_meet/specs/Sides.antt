@@ -56,7 +56,7 @@ pointed_spans s regs = map_each (pointed s) regs
 abbrev pub AreSomeEnds : EachOf Ends → Type 0
 AreSomeEnds s = IsSomeEnds s.c × IsSomeEnds s.e × IsSomeEnds s.d × IsSomeEnds s.f × IsSomeEnds s.r
 
--- they stand for these spans
+-- the ends of registers stand for these spans
 abbrev pub ArePackOf : EachOf Ends → EachOf Span → Type 0
 ArePackOf = Each IsPackOf
 
@@ -91,7 +91,7 @@ plain_by (Fold Max) a b = greater_of_ends a b
 plain_by (Fold Min) a b = lesser_of_ends a b
 plain_by Sub a b = kept_less a b
 
--- they are right of small numbers alone; one infinity has something taken away
+-- what plain operators are right of: small numbers alone, but one infinity from which something is taken away
 abbrev pub TakesPlain : Operator → Ends → Ends → Type 0
 TakesPlain (Fold Add) a b = AreWithin 5 a × AreWithin 5 b
 TakesPlain (Fold Max) a b = Unit {0}

@@ -19,7 +19,7 @@ use ts_base::Span;
 use ts_sweep::packed::PackedHull;
 
 /// The glued span of the state `q` on the left and `r` on the right, at a value of a cell. Some series reaches the
-/// one on the left; the span is none where none reaches the other.
+/// state on the left; the span is none where no series reaches the one on the right.
 pub fn glued_pair<const N: usize>(
     joints: &Joints,
     q: u8,

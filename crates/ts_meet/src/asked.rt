@@ -40,7 +40,7 @@ pub trait Asked: Copy {
     fn enough(self) -> Option<Ends>
         ensures { IfSome result (AreEnough (excluded self)) };
 
-    /// If no number of a span has it, none of a part of the span has it.
+    /// If no number of a span has the property, none of a part of the span has it.
     ghost of_part: { (a : Self) (s t : Span) → IsWithin s t → excluded a t → excluded a s };
 }
 

@@ -97,7 +97,7 @@ pub(crate) struct Answer {
     pub(crate) wide: bool,
 }
 
-/// The hull of the finish spans of one state, which are such answers.
+/// The hull of the finish spans of one state, whose finish expression is an answer.
 fn answers<const N: usize>(
     answer: Answer,
     a: &Automaton,

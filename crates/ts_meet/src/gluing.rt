@@ -121,7 +121,7 @@ impl Gluing {
         }
     }
 
-    /// The glued ends of two hulls before the mark. An end that the hulls haven't is infinite.
+    /// The glued ends of two hulls before the mark. An end that the hulls don't have is infinite.
     #[inline(always)]
     pub(crate) fn glued<const N: usize>(self, left: &PackedHull<N>, right: &PackedHull<N>) -> Ends
         requires registers { 6 ≤ lane_count N }
@@ -136,7 +136,7 @@ impl Gluing {
         shown::<N>(self.pointed(left, right))
     }
 
-    /// The answer of a run before the mark, where an end that its hull hasn't is read as the one that it has.
+    /// The answer of a run before the mark, where an end that its hull doesn't have is read as the one that it has.
     #[inline(always)]
     pub(crate) fn finished<const N: usize>(self, h: &PackedHull<N>) -> Ends
         requires registers { 6 ≤ lane_count N }
@@ -595,7 +595,7 @@ impl Gluing {
     }
 }
 
-/// The glued ends of two hulls before the mark, where one occurrence goes on. How they are glued is told part by part,
+/// The glued ends of two hulls before the mark, where one occurrence goes on. How they are glued is passed in parts,
 /// so that it needn't be stored where none goes on.
 #[inline(never)]
 fn joined_pair<const N: usize>(

@@ -11,7 +11,8 @@
 //! ```
 //!
 //! All is done by the ends of registers, as they lie in lanes. What is made is exactly what ts_glue makes of spans. Of
-//! hulls that have one end alone it is what that end tells: the other end of each span is infinite, before the mark.
+//! hulls that have one end alone, what is made is what that end shows: the other end of each span is infinite, before
+//! the mark.
 #![tactic(auto)]
 
 mod alone;

@@ -170,7 +170,7 @@ pub(crate) fn hull_of_both(a: Ends, b: Ends) -> Ends
     greater(a, b)
 }
 
-/// End by end the greater.
+/// The greater of each end.
 #[inline(always)]
 pub(crate) fn greater(a: Ends, b: Ends) -> Ends
     ensures { result ≡ max_ends a b }

@@ -14,7 +14,7 @@ pub(crate) enum Needed {
 }
 
 impl Needed {
-    /// What is needed where these ends are enough. The least number in a lane says that every end is.
+    /// What is needed where these ends are enough. The least number in a lane says that any end is enough there.
     #[inline(always)]
     pub(crate) fn of(enough: Ends) -> Needed
         ensures { needed_ends result ≡ enough }

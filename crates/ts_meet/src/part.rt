@@ -12,14 +12,14 @@ pub(crate) trait Registers: Copy {
     ghost use Rattle.ts_glue.specs.Glue.{held_in, open_in};
     ghost use Rattle.ts_meet.specs.Sides.{ends_in};
 
-    /// Which part.
+    /// Which part this is.
     ghost part: { Part };
 
-    /// The register that holds it.
+    /// The register that holds the part.
     fn held<S: Sums>(side: Side) -> Ends
         ensures { result ≡ value_in S.values (ends_in side) (pos 0) (pos 0) (held_in part) };
 
-    /// The register of the cells that may still come to it.
+    /// The register of the cells that may still come to the part.
     fn open<S: Sums>(side: Side) -> Ends
         ensures { result ≡ value_in S.values (ends_in side) (pos 0) (pos 0) (open_in part) };
 }
@@ -28,7 +28,7 @@ pub(crate) trait Registers: Copy {
 #[derive(Clone, Copy)]
 pub(crate) struct OfWhole;
 
-/// What is taken away from it: E and F.
+/// What is taken away from the whole of an occurrence: E and F.
 #[derive(Clone, Copy)]
 pub(crate) struct OfAway;
 

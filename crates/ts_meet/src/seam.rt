@@ -38,7 +38,7 @@ pub(crate) trait Seam<const N: usize>: Copy {
     /// That registers with these ends on both sides may be glued so.
     ghost takes: { Gluing → EachOf Ends → EachOf Ends → Type 0 };
 
-    /// The glued ends before the mark, where an end that the hulls haven't is read as the one that they have.
+    /// The glued ends before the mark, where an end that the hulls don't have is read as the one that they have.
     fn pointed(self, gluing: Gluing, left: &PackedHull<N>, right: &PackedHull<N>) -> Ends
         requires fits { fits gluing }
         requires registers { 6 ≤ lane_count N }
@@ -152,7 +152,7 @@ impl<const N: usize> Seam<N> for Any {
     }
 }
 
-/// The glued ends of two hulls before the mark. An end that they haven't is infinite.
+/// The glued ends of two hulls before the mark. An end that the hulls don't have is infinite.
 #[inline(always)]
 pub(crate) fn glued_by<S: Seam<N>, const N: usize>(
     seam: S,

@@ -128,7 +128,7 @@ fn settled_on<const N: usize>(
 }
 
 /// The place up to which, from the place `from` on, spans of pairs of states reach the ends that are needed, which are
-/// constants here as far as a match tells them.
+/// constants here as far as a match knows them.
 #[inline(always)]
 fn settled_in<const N: usize>(
     needed: Needed,
@@ -334,7 +334,7 @@ fn settles<const N: usize>(
 }
 
 /// Whether an end of the span of the answers of both runs reaches the one that is given, where both states are reached.
-/// Nothing is known of an end that the hulls haven't.
+/// Nothing is known of an end that the hulls don't have.
 #[inline(always)]
 fn end_settles<const N: usize>(
     end: End,

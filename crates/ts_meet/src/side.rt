@@ -26,7 +26,7 @@ pub(crate) struct Side {
 }
 
 impl Side {
-    /// The ends of the registers in a packed hull. An end that it hasn't is read as the one that it has.
+    /// The ends of the registers in a packed hull. An end that the hull doesn't have is read as the one that it has.
     #[inline(always)]
     pub(crate) fn of<const N: usize>(h: &PackedHull<N>) -> Side
         requires registers { 6 ≤ lane_count N }
@@ -43,7 +43,7 @@ impl Side {
     }
 }
 
-/// The ends of a register in a packed hull, where an end that it hasn't is read as the one that it has.
+/// The ends of a register in a packed hull. An end that the hull doesn't have is read as the one that it has.
 #[inline(always)]
 fn register_of<const N: usize>(h: &PackedHull<N>, register: Name) -> Ends
     requires registers { 6 ≤ lane_count N }
@@ -84,7 +84,7 @@ fn turned(x: i64) -> i64
     -x
 }
 
-/// Ends where one that a hull of N lanes hasn't is infinite again.
+/// Ends where one that a hull of N lanes doesn't have is infinite again.
 #[inline(always)]
 pub(crate) fn shown<const N: usize>(e: Ends) -> Ends
     ensures { result ≡ shown_ends (sides N) e }

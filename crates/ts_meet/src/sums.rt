@@ -96,8 +96,8 @@ pub(crate) fn crossed(e: Ends) -> Ends
     }
 }
 
-/// The first less the second, a small number. One infinity stays: what is held of an occurrence is so where none is
-/// open.
+/// The first less the second, a small number. One infinity stays: it stands for what is held of an occurrence where
+/// none is open.
 #[inline(always)]
 fn less(first: Ends, second: Ends) -> Ends
     requires { TakesPlain Sub first second }

@@ -43,7 +43,7 @@ asked_along-requires-in-Wide-Wide g c =
     let width = subst (λ (z : AnyView). IsFormOf joints.wide (form_of (viewed z))) c.in-Wide-Wide.is-0 c.requires.width in
     (search rules, (search rules, (search rules, (search rules, (inl refl, (left, (right, c.requires.values)))))))
 
--- what is told of both views in their forms is told of them as they are given
+-- what holds of both views in their forms holds of them as they are given
 told_of_both : (Told : AnyView → AnyView → Type 0) (a b c d : AnyView) → a ≡ b → c ≡ d → Told b d → Told a c
 told_of_both Told a b c d first second told = subst (λ z. Told z c) (sym first) (subst (Told b) (sym second) told)
 
