@@ -211,7 +211,7 @@ found_added old new form j f e q =
     let last : j ≡ length (residuals_of old) = omega (arith, q, all) in
     (inr (is, last), (omega (arith, size, last), ap (λ z. shape_at z j) is ∙ shape_new (residuals_of old) d j last))
 
--- the same residuals, and the same answers
+-- a book with the same residuals, and the same answers
 
 book_moved : (p : Shape) (old new : Book) → IsBook p old → residuals_of old ≡ residuals_of new → IsTable new.forms →
     AreThere (shapes_in new.forms) new.residuals.items → new.places.keys ≡ new.residuals.items → new.words.items ≡ old.words.items →

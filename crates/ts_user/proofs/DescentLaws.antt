@@ -82,7 +82,7 @@ module _ (most : ℕ) (word : List ℕ) where
       by None = refl
       by (Some r) = refl
 
--- The same of the values of the code.
+-- A bracket level as the code reads it.
 
 abbrev IsRead : List ℕ → ℕ → Option Read → Type 0
 IsRead word left o = (outer : List Within) → read_by word outer o ≡ read_on 256 (take left word) (record { inner = blank_level; outer = outer })

@@ -1,4 +1,4 @@
--- The first words of a line tell what it says: no form has as many.
+-- The first words of a line decide what it says: no form has as many.
 use Rattle.std.proofs.Common.{◌≡◌, ℕ, ◌<◌, ◌≤◌, ◌==◌, Bool, true, false, cond, ◌&&◌, not, nat_lt}
 use Rattle.std.proofs.Common.{Ok, Err, List, [], ◌∷◌, length, take, sym, ap, subst, ◌∙◌, refl, arith}
 use Rattle.std.proofs.Common.{ltb-true, ltb-false, ne_eqb, take_all}

@@ -98,7 +98,7 @@ pub here_listed : (s : Subject Shape) (p : Shape) (t : Listing) (k : ℕ) (here 
     here ≡ get_or t.configurations.items k here → AreListed (residuals_of t.book) here.live.items
 here_listed s p t k here h q e = h.listed k here (slice_get_read t.configurations.items _ k here refl q e)
 
--- so many residuals, at most
+-- how many residuals there are at most
 numbers_few : (n : ℕ) (is : List ℕ) (all : ℕ) → AreNumbered n is all → all ≤ n + length is
 numbers_few n [] all h = omega (arith, h)
 numbers_few n (i ∷ is) all h =
@@ -189,7 +189,7 @@ is_refused s p t k l book to ok h q w e =
 
 -- the configuration is listed
 
--- its key is there
+-- the configuration's key is there
 pub key_found : (cs : List Configuration) (old new : List (List ℕ)) (to : Configuration) (key : List ℕ) (o : Option ℕ) (i : ℕ) →
     old ≡ map (λ x. configuration_key x) cs → key ≡ configuration_key to → IsPlaced old new key o → o ≡ Some i →
     (x : Configuration) × (slice_get cs i ≡ Some x) × AreSame x to × (new ≡ map (λ x. configuration_key x) cs)
@@ -198,7 +198,7 @@ key_found cs old new to key o i e k h q =
     let x = key_at (λ x. configuration_key x) cs i key (ap (λ z. slice_get z i) (sym e) ∙ placed.1) in
     (x.0, x.1, same_configuration x.0 to (x.2 ∙ k), placed.0 ∙ e)
 
--- or it wasn't, and is now
+-- the configuration's key wasn't there, and is now
 pub key_added : (cs : List Configuration) (old new : List (List ℕ)) (to : Configuration) (key : List ℕ) (o : Option ℕ) →
     old ≡ map (λ x. configuration_key x) cs → key ≡ configuration_key to → IsPlaced old new key o → o ≡ None →
     IsNew cs to × (new ≡ map (λ x. configuration_key x) cs ++ configuration_key to ∷ [])
@@ -245,7 +245,7 @@ old_taken s p t k l book to ok h q i x e a =
     (sym ((h.listed).values i x e) ∙ sym (grown_value (residuals_of t.book) (residuals_of book) x h.grows ((h.listed).listed i x e))
     ∙ same_value (residuals_of book) x to a ∙ h.value)
 
--- it isn't
+-- the configuration isn't listed
 
 none_there : (s : Subject Shape) (p : Shape) (t : Listing) (k : ℕ) (l : Letter) (book : Book) (to : Configuration) (ok : Bool) →
     IsLook s p t k l book to ok → IsNew t.configurations.items to → (i : ℕ) → i < length (signatures_of t) →
@@ -321,7 +321,7 @@ new_listed s p t new k l book to ok h eb ec ew few ks =
     listed_in j y (inl a) = listed_grow (residuals_of t.book) (residuals_of book) y.live.items h.grows ((h.listed).listed j y a.1)
     listed_in j y (inr a) = subst (λ (z : Configuration). AreListed (residuals_of book) z.live.items) a.1 h.to_listed
 
--- it can't be listed
+-- the configuration can't be listed
 
 pub is_full : (s : Subject Shape) (p : Shape) (t : Listing) (k : ℕ) (l : Letter) (book : Book) (to : Configuration) (ok : Bool) →
     IsLook s p t k l book to ok → ok ≡ true → IsNew t.configurations.items to → (e : BuildStop) → IsFull (length t.configurations.items) e → IsStop s e

@@ -1,4 +1,4 @@
--- Whether a word is an expression is told by its outline; and one of more than 64 bytes is too large.
+-- Whether a word is an expression is decided by its outline; and one of more than 64 bytes is too large.
 use Rattle.std.specs.Prelude.{◌≡◌, ℕ, zero, suc, ◌-◌, ◌<◌, ◌≤◌, true, false, List, [], ◌∷◌, length, drop, get_or, nat_le, Option, Some, None, option_map, is_some, cond}
 use Rattle.std.proofs.Math.Seq.{drop-cons}
 use Rattle.std.proofs.Common.{refl, sym, ap, ◌∙◌, arith}

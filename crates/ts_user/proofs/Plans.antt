@@ -119,7 +119,7 @@ pub plan_once : (rows : List Row) (p : Pattern) (plan : Plan) (t : Listing) → 
     map (λ s. shape_of s) plan.residuals.items ≡ residuals_of t.book → HasResidualsOnce plan
 plan_once rows p plan t h r = subst (λ z. AreDifferent z) (sym r) h.book.once
 
--- it is a plan of the pattern
+-- what is listed is a plan of the pattern
 
 first_whole : (rs : List Shape) (n : Shape) → 0 < length rs → shape_at rs 0 ≡ n → first_passes (λ r. same_shape r n) rs ≡ true
 first_whole [] n q e = absurd (omega (arith, q))

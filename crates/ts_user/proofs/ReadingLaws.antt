@@ -71,7 +71,7 @@ so_far_more : (done : List Row) (row : Row) → so_far (done ++ row ∷ []) ≡ 
 so_far_more done row = ap (stated_after nothing) (said_append done (row ∷ [])) ∙ stated_append nothing (said_lines done) (said_lines (row ∷ []))
 
 module _ (alone : Bool) where
-  -- the same of rows after those that are done
+  -- rows are good, after those that are done
   abbrev GoodFrom : List Row → List Row → Type 0
   GoodFrom done rows = (i : ℕ) (row : Row) → slice_get rows i ≡ Some row → kind_at alone (done ++ take i rows) row ≡ None
 

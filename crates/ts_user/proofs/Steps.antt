@@ -208,7 +208,7 @@ added_some old new l e es after j h a once q =
 
 -- all entries, and the start at the sign now read
 
--- of the first i entries
+-- what the letter leaves of the first i entries
 pub record IsLeftTo (old new : List Shape) (l : Letter) (live kept : List Live) : Type 0 where
   pub grows : Grows old new
   pub few_residuals : length new ≤ length old + length live

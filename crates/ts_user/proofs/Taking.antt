@@ -35,7 +35,7 @@ length_push : (ws : List (List Letter)) (w : List Letter) → length (ws ++ w �
 length_push [] w = refl
 length_push (v ∷ ws) w = let h = length_push ws w in omega (arith, h)
 
--- those of one more place, where the one there is u with the letter l
+-- the signatures of one more place, where the one there is u with the letter l
 
 push_parts : (u v : List Letter) (l m : Letter) → place (v ++ m ∷ []) ≡ place (u ++ l ∷ []) → (v ≡ u) × (m ≡ l)
 push_parts u v l m e =
@@ -77,7 +77,7 @@ take_old s ws n u l h e a i q r =
       pass = pass_more s n u l e h.pass a;
     }
 
--- it isn't, and is listed now
+-- the configuration there wasn't listed, and is now
 pub take_new : (s : Subject Shape) (ws : List (List Letter)) (n : ℕ) (u : List Letter) (l : Letter) → IsTaken s ws n → n ≡ place (u ++ l ∷ []) →
     agrees s (reached s u) l ≡ true → ((i : ℕ) → i < length ws → reached s (signature_at ws i) ≡ reached s (u ++ l ∷ []) → ⊥) →
     IsTaken s (ws ++ (u ++ l ∷ []) ∷ []) (n + 1)

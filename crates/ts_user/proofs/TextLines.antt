@@ -31,7 +31,7 @@ cut rows count not_text = record { rows = rows; count = count; not_text = not_te
 abbrev row_at : ℕ → List ℕ → Row
 row_at number line = record { number = number; words = words_of line }
 
--- the reading of lines after so many, by their rows
+-- the reading of lines after `count` others, by their rows
 abbrev by_rows : Bool → ℕ → ℕ → Stated → List (List ℕ) → Result Described (ℕ × UserKind)
 by_rows alone number count m lines =
     end_reading (cut (rows_from number lines) count (not_text_from number lines))
@@ -86,7 +86,7 @@ line_on alone count m after rest line left all cut gives kept =
     λ r. onward (count + 1) r (λ a. lines_reading alone (count + 1) a (lines_of left)) in
     sym (ap (lines_reading alone count m) cut ∙ ap next gives) ∙ kept
 
--- a kind holds of it, or memory ran out
+-- a kind holds of the line, or memory ran out
 pub line_stops : (alone : Bool) (count : ℕ) (m after : Stated) (rest line left : List ℕ) (stop : LineStop) (told : UserStop)
     (all : Result Described (ℕ × UserKind)) → told ≡ at_line (count + 1) stop → lines_of rest ≡ without_end line ∷ lines_of left →
     Gives {X = Unit {0}} (λ _. after) (Err stop) (line_after alone m (without_end line)) → lines_reading alone count m (lines_of rest) ≡ all →
@@ -166,7 +166,7 @@ alone_is text = one_more 1 (lines_of text)
 abbrev one_by : Bool → List (List ℕ) → Bool → Bool → Bool
 one_by found lines t s = cond t (cond s (has_one found lines) (cond found false (has_one true lines))) false
 
--- what one line more says of it
+-- what one line more says of whether there is one line
 pub skipped_on : (found : Bool) (rest line left : List ℕ) (all : Bool) → lines_of rest ≡ line ∷ lines_of left → is_text line ≡ true →
     is_skipped (words_of line) ≡ true → has_one found (lines_of rest) ≡ all → has_one found (lines_of left) ≡ all
 skipped_on found rest line left all cut text skipped kept =

@@ -1,4 +1,4 @@
--- What was told of a text is its reading.
+-- What was answered of a text is its reading.
 use Rattle.std.proofs.Common.{Ok, Err, subst}
 use Rattle.std.specs.Prelude.{Result}
 use Rattle.ts_token.specs.Text.{Cut}

@@ -27,7 +27,7 @@ abbrev pub read_by : List ℕ → List Within → Option Read → Option (Option
 read_by word outer None = None
 read_by word outer (Some x) = read_on 256 (take x.left word) (at_level outer x.level)
 
--- so many bytes stand before a level that ends where so many are left: it begins the word, or a `(` stands before it
+-- `start` bytes stand before a level that ends where `end` are left: it begins the word, or a `(` stands before it
 pub record AtLevelStart (word : List ℕ) (end start : ℕ) : Type 0 where
   pub before : start ≤ end
   pub starts : (start ≡ 0) ⊎ (get_or word (start - 1) 0 ≡ 40)

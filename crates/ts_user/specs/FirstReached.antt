@@ -42,21 +42,21 @@ IsFirst s w = (v : List Letter) → place v < place w → reached s v ≡ reache
 abbrev pub PassBelow : Subject Shape → ℕ → Type 0
 PassBelow s n = (v : List Letter) (l : Letter) → place (v ++ l ∷ []) < n → agrees s (reached s v) l ≡ true
 
--- they stand in their order
+-- the signatures of a list stand in their order
 abbrev pub Rises : List (List Letter) → Type 0
 Rises ws = (i j : ℕ) → i < j → j < length ws → place (signature_at ws i) < place (signature_at ws j)
 
--- w stands in the list
+-- the signature w stands in the list
 abbrev pub StandsIn : List (List Letter) → List Letter → Type 0
 StandsIn ws w = (i : ℕ) × (i < length ws) × (signature_at ws i ≡ w)
 
--- these are the first ones of places below n, in their order
+-- the list has the first signatures of places below n, in their order
 pub record AreFirst (s : Subject Shape) (ws : List (List Letter)) (n : ℕ) : Type 0 where
   pub rises : Rises ws
   pub each : (i : ℕ) → i < length ws → IsFirst s (signature_at ws i) × (place (signature_at ws i) < n)
   pub all : (w : List Letter) → place w < n → IsFirst s w → StandsIn ws w
 
--- these are all first ones, in their order
+-- the list has all first signatures, in their order
 pub record AreAllFirst (s : Subject Shape) (ws : List (List Letter)) : Type 0 where
   pub rises : Rises ws
   pub each : (i : ℕ) → i < length ws → IsFirst s (signature_at ws i)

@@ -22,7 +22,7 @@ symbol_of b =
     else (if b == 124 then Some Or
     else None)))))))
 
--- the expression, or None where it has more than so many nodes
+-- the expression, or None where it has more nodes than this
 abbrev pub bounded : ℕ → Shape → Option Shape
 bounded most r = if nat_le (nodes r) most then Some r else None
 
@@ -70,7 +70,7 @@ abbrev pub onto_choices : ℕ → Option Shape → Option (Option Shape) → Opt
 onto_choices most r None = r
 onto_choices most r (Some s) = bounded_alt most r s
 
--- an atom was read
+-- the level after an atom was read
 abbrev pub with_atom : ℕ → Option Shape → Within → Within
 with_atom most r x = record {
   repeat = None;
@@ -133,8 +133,7 @@ ended most (Some x) = ended_at most x.inner x.outer
 abbrev pub read_on : ℕ → List ℕ → Levels → Option (Option Shape)
 read_on most bytes x = ended most (read_onto most bytes (Some x))
 
--- the expression that the bytes are, or None in its place where it has more than so many nodes; None where they aren't
--- one
+-- the expression that the bytes are, or None in its place where it has more nodes than this; None where they aren't one
 abbrev pub read_within : ℕ → List ℕ → Option (Option Shape)
 read_within most bytes = ended most (levels_of most bytes)
 

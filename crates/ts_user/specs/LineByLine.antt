@@ -12,7 +12,7 @@ line_after alone m line =
     if is_text line then (if is_skipped (words_of line) then Ok m else line_gives alone m (texts_of (words_of line)))
     else Err NotText
 
--- the reading of the lines that follow so many which state m
+-- the reading of lines, where the `count` lines before them state m
 abbrev pub lines_reading : Bool → ℕ → Stated → List (List ℕ) → Result Described (ℕ × UserKind)
 lines_reading alone count m [] = numbered (count + 1) (ended_stated m)
 lines_reading alone count m (line ∷ lines) =

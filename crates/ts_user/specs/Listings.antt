@@ -14,12 +14,12 @@ use Rattle.ts_user.specs.Numbered.{AreNumbered, entry_numbers}
 use Rattle.ts_user.specs.SignatureOrder.{place, signature_at}
 use Rattle.ts_user.specs.FirstReached.{reached, agrees, IsFirst, PassBelow, Rises}
 
--- one of the list, at or before w, leads where w leads
+-- a signature of the list, at or before w, leads where w leads
 abbrev pub IsCovered : Subject Shape → List (List Letter) → List Letter → Type 0
 IsCovered s ws w =
     (i : ℕ) × (i < length ws) × (place (signature_at ws i) ≤ place w) × (reached s (signature_at ws i) ≡ reached s w)
 
--- the signatures of places below n were looked at: these are the first ones of them, and the checks hold
+-- the signatures of places below n were looked at: the list has the first ones of them, and the checks hold
 pub record IsTaken (s : Subject Shape) (ws : List (List Letter)) (n : ℕ) : Type 0 where
   pub rises : Rises ws
   pub each : (i : ℕ) → i < length ws → IsFirst s (signature_at ws i)
@@ -27,14 +27,14 @@ pub record IsTaken (s : Subject Shape) (ws : List (List Letter)) (n : ℕ) : Typ
   pub covers : (w : List Letter) → place w < n → IsCovered s ws w
   pub pass : PassBelow s n
 
--- all were
+-- all signatures were looked at
 pub record IsWhole (s : Subject Shape) (ws : List (List Letter)) : Type 0 where
   pub rises : Rises ws
   pub each : (i : ℕ) → i < length ws → IsFirst s (signature_at ws i)
   pub covers : (w : List Letter) → IsCovered s ws w
   pub pass : (v : List Letter) (l : Letter) → agrees s (reached s v) l ≡ true
 
--- the steps of the first k were taken: what comes next is signature k with the first letter, if there is one
+-- the steps of the first k signatures were taken: what comes next is signature k with the first letter, if there is one
 pub record IsReady (s : Subject Shape) (ws : List (List Letter)) (k : ℕ) : Type 0 where
   pub more : k < length ws → IsTaken s ws (3 * place (signature_at ws k) + 1)
   pub done : k ≡ length ws → IsWhole s ws
@@ -66,15 +66,15 @@ pub record IsBegun (t : Listing) : Type 0 where
   pub signatures : signatures_of t ≡ [] ∷ []
   pub keys : key_lists t.keys ≡ configuration_key blank ∷ []
 
--- the same state and the same entries
+-- two configurations have the same state and the same entries
 abbrev pub AreSame : Configuration → Configuration → Type 0
 AreSame x y = (x.state ≡ y.state) × (x.live.items ≡ y.live.items)
 
--- x isn't among them
+-- x is none of the configurations
 abbrev pub IsNew : List Configuration → Configuration → Type 0
 IsNew xs y = (i : ℕ) (x : Configuration) → slice_get xs i ≡ Some x → AreSame x y → ⊥
 
--- why nothing was listed where so many were
+-- why nothing was listed where n configurations were
 abbrev pub IsFull : ℕ → BuildStop → Type 0
 IsFull n (Refused signature) = ⊥
 IsFull n TooMany = most_configurations ≤ n

@@ -1,4 +1,4 @@
--- What tells whether an expression that is read from its end is one: the front of the innermost bracket level, and how
+-- What decides if an expression that is read from its end is one: the front of the innermost bracket level, and how
 -- many levels are open around it.
 use Rattle.std.specs.Prelude.{ℕ, zero, suc, ◌+◌, ◌==◌, Bool, false, length, Option, Some, None}
 use Rattle.ts_regex.specs.Shape.{Shape}

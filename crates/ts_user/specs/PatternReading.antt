@@ -96,7 +96,7 @@ abbrev pub IsEnd : Cut → Option ℕ → ℕ → UserKind → Type 0
 IsEnd c (Some bad) line kind = (line ≡ bad) × (kind ≡ NotText)
 IsEnd c None line kind = (line ≡ c.count + 1) × (end_kind (so_far c.rows) ≡ Some kind)
 
--- a text is refused so
+-- a text is refused at this line, with this kind
 abbrev pub IsRefused : Cut → ℕ → UserKind → Type 0
 IsRefused c line kind =
     FirstBad (is_alone c) c.rows line kind ⊎ (AreGood (is_alone c) c.rows × IsEnd c c.not_text line kind)

@@ -51,7 +51,7 @@ move_said ws = record {
   to = unwrap_or (letter_name (word_at ws 3)) 0;
 }
 
--- what a line says of which none of these kinds holds
+-- what a line says of which neither `unknownline`, `shape`, `expression` nor `number` holds
 abbrev pub said_by : Form → List (List ℕ) → Meaning
 said_by Catalogue ws = SaysCatalogue (pattern_of (word_at ws 0))
 said_by Pattern ws = SaysPattern (unwrap_or (expression_of (word_at ws 0)) None)
@@ -70,7 +70,7 @@ abbrev pub parsed_as : Option Form → List (List ℕ) → Result Meaning UserKi
 parsed_as None ws = Err UnknownLine
 parsed_as (Some form) ws = parsed_by form ws
 
--- what the words of a line say, or the first of those kinds that holds
+-- what the words of a line say, or the first of `unknownline`, `shape`, `expression` and `number` that holds
 abbrev pub meaning_in : List (List ℕ) → Result Meaning UserKind
 meaning_in [] = Err UnknownLine
 meaning_in (first ∷ ws) = parsed_as (form_of first) ws

@@ -69,7 +69,7 @@ Drafts (Ok d) read = read ≡ Ok (stated_of d)
 Drafts (Err (Refused line kind)) read = read ≡ Err (line, kind)
 Drafts (Err Memory) read = Unit {0}
 
--- what was told of a text is its reading, unless memory ran out
+-- what was answered of a text is its reading, unless memory ran out
 abbrev pub Tells : Cut → Result UserPattern UserStop → Type 0
 Tells c (Ok u) = IsPattern c (described_of u)
 Tells c (Err (Refused line kind)) = IsRefused c line kind

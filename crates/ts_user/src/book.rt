@@ -25,7 +25,7 @@ use ts_validate::{Kept, Words};
 /// What is known of a residual after a letter.
 #[derive(Clone, Copy)]
 pub enum Next {
-    /// It wasn't asked yet.
+    /// The letter wasn't asked about yet.
     Unread,
     /// No word is left.
     NoWord,
@@ -88,7 +88,7 @@ pub struct Book {
 }
 
 impl Book {
-    /// With no residual.
+    /// A book with no residual.
     fn blank(alloc: Global) -> Book
         ensures forms { IsTable result.forms }
         ensures residuals { result.residuals.items ≡ [] }
@@ -116,7 +116,7 @@ impl Book {
     }
 
     /// Adds the whole pattern as the first residual.
-    // A call of its own, since each early return of a body that owns the book drops it, which is dear to prove.
+    // A call of its own, since each early return of a body that owns the book drops it, which is hard to prove.
     fn begin(&mut self, alloc: Global, p: &Pattern) -> Result<(), Memory>
         requires forms { IsTable self.old.forms }
         requires residuals { self.old.residuals.items ≡ [] }
@@ -133,7 +133,7 @@ impl Book {
         Ok(())
     }
 
-    /// Adds a residual as the last; its place is there.
+    /// Adds a residual as the last; its place is among the places already.
     fn add(&mut self, form: usize) -> Result<(), Memory>
         requires table { IsTable self.old.forms }
         requires there { form < length (shapes_in self.old.forms) }

@@ -46,7 +46,7 @@ fn read_byte(alloc: Global, byte: u8, level: Level) -> Result<Option<Level>, Mem
     }
 }
 
-/// The level after the bracketed atom whose `)` stands after the first bytes, so many of them; None where it is none.
+/// The level after the bracketed atom whose `)` stands after the first `left` bytes; None where there is no such atom.
 #[cycle(descent)]
 fn read_bracketed(
     alloc: Global,
@@ -97,8 +97,8 @@ fn read_part(alloc: Global, word: &[u8], read: Read) -> Result<Option<Read>, Mem
     }
 }
 
-/// The bracket level that ends where so many bytes are left, read down to its `(` or the beginning of the word; None
-/// where it isn't one.
+/// The bracket level that ends where `left` bytes are left, read down to its `(` or the beginning of the word; None
+/// where there is no such level.
 #[cycle(descent)]
 fn read_level(alloc: Global, word: &[u8], left: usize) -> Result<Option<Read>, Memory>
     requires { left ≤ length word.now }

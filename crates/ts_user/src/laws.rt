@@ -19,9 +19,10 @@ pub fn one_answer()
     ensures one_refusal { (s : Subject Shape) (v w : List Letter) → IsRefused s v → IsRefused s w → v ≡ w }
 {}
 
-/// The row of all signatures is that of turns: the front of one that reaches a configuration first does so too, hence
-/// each but the empty one is the step of a listed one on a letter; the steps of an earlier one stand before those of a
-/// later one, and the steps of one stand in the order of the letters.
+/// To list configurations turn by turn is to go along the row of all signatures: where a signature reaches a
+/// configuration first, so does its front, hence each but the empty one is the step of a listed one on a letter; the
+/// steps of an earlier signature stand before those of a later one, and the steps of one stand in the order of the
+/// letters.
 pub fn by_turns()
     ensures fronts { (s : Subject Shape) (v : List Letter) (l : Letter) →
         IsFirst s (v ++ l ∷ []) → IsFirst s v }

@@ -48,7 +48,7 @@ impl Listing {
     }
 
     /// Lists the start state with no entry, by no signs, where nothing is listed.
-    // A call of its own, since each early return of a body that owns the listing drops it, which is dear to prove.
+    // A call of its own, since each early return of a body that owns the listing drops it, which is hard to prove.
     fn begin(&mut self, alloc: Global) -> Result<(), Memory>
         requires configurations { self.old.configurations.items ≡ [] }
         requires signatures { self.old.signatures.items ≡ [] }

@@ -17,7 +17,7 @@ pub(crate) enum Front {
     Atom,
 }
 
-/// The front of the innermost bracket level, and how many levels are open around it: all that tells whether an
+/// The front of the innermost bracket level, and how many levels are open around it: all that decides if an
 /// expression that is read from its end is one.
 #[derive(Clone, Copy)]
 pub(crate) struct Outline {

@@ -32,7 +32,7 @@ fn room_after(regex: &Regex, room: usize) -> Option<usize>
     }
 }
 
-/// The expression as a part of at most so many nodes.
+/// The expression as a part of at most `most` nodes.
 pub(crate) fn bounded(most: usize, regex: Regex) -> Part
     ensures { part_of result ≡ bounded most (shape_of regex) }
 {
@@ -43,7 +43,7 @@ pub(crate) fn bounded(most: usize, regex: Regex) -> Part
 }
 
 impl Part {
-    /// The same part once more.
+    /// A copy of the part.
     fn try_clone(&self, alloc: Global) -> Result<Part, Memory>
         ensures { IfOk result (λ p. part_of p ≡ part_of self.now) }
     {
@@ -53,7 +53,7 @@ impl Part {
         }
     }
 
-    /// Any number of times.
+    /// The part any number of times.
     pub(crate) fn any_times(self, alloc: Global, most: usize) -> Result<Part, Memory>
         ensures { IfOk result (λ p. part_of p ≡ bounded_star most (part_of self)) }
     {
@@ -63,7 +63,7 @@ impl Part {
         }
     }
 
-    /// Once, and then any number of times.
+    /// The part once, and then any number of times.
     pub(crate) fn once_or_more(self, alloc: Global, most: usize) -> Result<Part, Memory>
         ensures { IfOk result (λ p. part_of p ≡ bounded_cat most (part_of self) (bounded_star most (part_of self))) }
     {
@@ -81,7 +81,7 @@ impl Part {
         }
     }
 
-    /// One of the two.
+    /// This part or the other.
     pub(crate) fn or(self, alloc: Global, most: usize, other: Part) -> Result<Part, Memory>
         ensures { IfOk result (λ p. part_of p ≡ bounded_alt most (part_of self) (part_of other)) }
     {

@@ -28,7 +28,7 @@ fn list_all(alloc: Global, rows: &[Row], p: &Pattern) -> Result<Listing, BuildSt
 }
 
 /// Takes the steps of each configuration that is listed, and of those that come in by them.
-// A call of its own: a return out of a loop that owns the listing is dear to prove.
+// A call of its own: a return out of a loop that owns the listing is hard to prove.
 fn expand_all(
     alloc: Global,
     listing: &mut Listing,
@@ -49,7 +49,7 @@ fn expand_all(
     Ok(())
 }
 
-/// The plan of a transducer for a pattern: the at most 512 configurations in which the two can stand together, in the
+/// The plan of a transducer for a pattern: the configurations, at most 512, in which the two can stand together, in the
 /// order in which they are first reached from the start state, the steps of each listed one taken in turn on `<`, `=`
 /// and `>`, and the residuals, each once, in the order in which they first stand. It is closed, so `validate` takes it.
 ///

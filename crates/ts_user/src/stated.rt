@@ -39,7 +39,7 @@ impl StatedState {
         }
     }
 
-    /// Its move on a letter.
+    /// The state's move on a letter.
     pub(crate) fn arrow(&self, letter: Letter) -> Option<Arrow>
         ensures { result ≡ arrow_stated letter self.now }
     {
@@ -71,14 +71,14 @@ impl StatedState {
         }
     }
 
-    /// Whether it has its three moves.
+    /// Whether the state has its three moves.
     pub(crate) fn is_complete(&self) -> bool
         ensures { result ≡ is_complete self.now }
     {
         self.less.is_some() && self.equal.is_some() && self.greater.is_some()
     }
 
-    /// Its row; a move that doesn't stand leads to the start and does nothing.
+    /// The state's row; a move that doesn't stand leads to the start and does nothing.
     pub(crate) fn row(&self) -> Row
         ensures { result ≡ row_stated self.now }
     {

@@ -15,7 +15,7 @@ use std::alloc::Global;
 use ts_base::first_line;
 use ts_token::{Content, first_words, line_content};
 
-/// No form has as many words; of a line with more, so many tell the first kind that holds.
+/// No form has as many words: of a line with more, this many words decide which kind holds first.
 const MOST_WORDS: usize = 6;
 
 /// Whether the text has one line that isn't skipped, and is text up to its end.

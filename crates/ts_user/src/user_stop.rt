@@ -15,9 +15,9 @@ use ts_base::Memory;
 pub enum UserKind {
     /// A byte of the line is neither printable ASCII nor a tab.
     NotText,
-    /// Its first word is none of `catalogue`, `pattern`, `trim`, `state` and `move`.
+    /// The line's first word is none of `catalogue`, `pattern`, `trim`, `state` and `move`.
     UnknownLine,
-    /// There are more or fewer words than that form has, or a state's name isn't one letter from `a` to `z`.
+    /// There are more or fewer words than the line's form has, or a state's name isn't one letter from `a` to `z`.
     Shape,
     /// The word of the pattern isn't in the grammar of expressions.
     Expression,
@@ -43,7 +43,7 @@ pub enum UserKind {
     Typing,
 }
 
-/// Why a text states no pattern: its first bad line, counted from 1, and the first kind that holds of it; or want of
+/// Why a text states no pattern: its first bad line, counted from 1, and the first kind that holds of it; or lack of
 /// memory.
 #[derive(Clone, Copy, Debug, PartialEq, Eq, Error)]
 pub enum UserStop {
