@@ -60,14 +60,14 @@ is_refuting own s t h j f = record {
   refutes = (h f.require (contained own.all.now (j - 1) f.require f.is.1) f.of_term).0 f.refutes;
 }
 
--- what is excluded of one is of the other
+-- what one of two spans that a question finds alike excludes, the other one excludes
 pub excludes_so : (asked : Question) (s t : Span) → AreAlike asked s t → Excludes asked s → Excludes asked t
 excludes_so (Compares op bound) s t h none = h.0 none
 excludes_so (MeetsEach own) s t h none = (none.0, is_refuting own s t h none.0 none.1)
 excludes_so (Counts goal bar) s t h none = h.0 none
 excludes_so (Ranks goal) s t h none = none
 
--- and so is the first requirement that is refuted
+-- the first requirement that is refuted by one of two spans that are alike is refuted first by the other one
 pub first_so : (own : TermRequirements) (s t : Span) (found : Option ℕ) → AreAlike (MeetsEach own) s t →
     IsFirstRefuting own.all.now own.term s found → IsFirstRefuting own.all.now own.term t found
 first_so own s t None h none = λ j f. none j (is_refuting own t s (alike_back (MeetsEach own) s t h) j f)
@@ -89,7 +89,7 @@ module _ (asked : Question) where
   pub finds_on : (s t u : Span) → FindsAlike asked s t → FindsAlike asked t u → FindsAlike asked s u
   finds_on s t u h k v = alike_on asked (span_hull v s) (span_hull v t) (span_hull v u) (h v) (k v)
 
-  -- joined to another span
+  -- spans that a question finds alike, joined to another span
   pub finds_joined : (u s t : Span) → FindsAlike asked s t → FindsAlike asked (span_hull u s) (span_hull u t)
   finds_joined u s t h v =
       subst (λ z. AreAlike asked z (span_hull v (span_hull u t))) (hull_assoc v u s)
@@ -109,7 +109,7 @@ module _ (asked : Question) where
       subst (λ z. AreAlike asked z t) (hull_comm none_span s ∙ e)
       (subst (AreAlike asked (span_hull none_span s)) (hull_comm none_span t ∙ f) (h none_span))
 
-  -- spans one by one
+  -- a question finds the spans of two lists alike, one by one
   abbrev pub EachAlike : List Span → List Span → Type 0
   EachAlike [] [] = Unit {0}
   EachAlike [] (t ∷ ts) = ⊥
@@ -124,7 +124,7 @@ module _ (asked : Question) where
 
 -- the question whether each requirement of a term is met
 
--- where there is only one
+-- the question where there is only one requirement
 pub asks_only : (own : TermRequirements) (r : Require) → ((s : Span) → Refutes r.op r.bound s ↔ RefutesSome own.all.now own.term s) →
     ((other : Require) → Contains own.all.now other → other.term ≡ own.term → other ≡ r) → AsksEach own (Compares r.op r.bound)
 asks_only own r told alone = record {
@@ -139,7 +139,7 @@ module _ (rs : List Require) (term : ℕ) (ends : Sides) (mark : Mark) (n : ℕ)
   abbrev is_own : Require → Bool
   is_own r = nat_eq r.term term
 
-  -- the ends are enough for those at the first places
+  -- the ends are enough for the requirements at the first places
   abbrev pub ServeUpTo : ℕ → Type 0
   ServeUpTo at = (i : ℕ) (r : Require) → slice_get rs i ≡ Some r → r.term ≡ term → i < at → IsServed ends mark n (Compares r.op r.bound)
 
@@ -164,7 +164,7 @@ module _ (rs : List Require) (term : ℕ) (ends : Sides) (mark : Mark) (n : ℕ)
       IsServed ends mark n (Compares (get_or rs first d).op (get_or rs first d).bound) → ServeUpTo (first + 1)
   serve_first first d e one = serve_more first d (before_first first e) (λ of_term. one)
 
--- then they are enough for all of them
+-- ends that are enough for each requirement of the term are enough for all of them
 pub serve_each : (own : TermRequirements) (ends : Sides) (mark : Mark) (n at : ℕ) → ServeUpTo own.all.now own.term ends mark n at → own.end ≤ at →
     IsServed ends mark n (MeetsEach own)
 serve_each own ends mark n at told all s u r there of_term =

@@ -1,4 +1,4 @@
--- Machines that answer the values of their terms have spans that hold the values, and tell that of a single series.
+-- Machines that answer the values of their terms have spans that hold the values, and on a single series the value alone.
 use Rattle.std.proofs.Common.{ℕ, ◌≤◌, ℤ, List, [], ◌∷◌, sym, ◌∙◌, ap, subst}
 use Rattle.std.proofs.lemmas.List.{length-map}
 use Rattle.ts_base.specs.Limits.{most_cells}

@@ -32,7 +32,7 @@ abbrev pub IsNoBetter : ModelParts → Aim → Ext → List ℤ → Type 0
 IsNoBetter m (BestOf goal) v x = (w : Ext) → objective_of m x ≡ Some w → is_better goal w v ≡ false
 IsNoBetter m (ListOf count) v x = ⊥
 
--- it had its `yes`
+-- the series had its `yes`
 pub record WasTold (series : List (List ℤ)) (told after : ℕ) (x : List ℤ) : Type 0 where
   pub place : ℕ
   pub from : told ≤ place

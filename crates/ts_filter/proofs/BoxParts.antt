@@ -156,7 +156,7 @@ others_stay k u b h c many has none =
 pub part_self : (m : Box) → IsBox m → IsPart m m
 part_self m h = record { box = h; inside = inside_self m }
 
--- the series of a single one
+-- the one series of the box of a series alone
 pub only_series : (x y : List ℤ) → InBox y (box_of x) → y ≡ x
 only_series [] [] h = refl
 only_series [] (v ∷ y) h = absurd h

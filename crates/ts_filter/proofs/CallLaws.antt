@@ -1,4 +1,4 @@
--- What the calls tell of the machine of a term is what the definitions say of the spans of all machines.
+-- What the calls answer of the machine of a term is what the definitions say of the spans of all machines.
 use Rattle.std.proofs.Common.{◌≡◌, ℕ, ◌-◌, ◌≤◌, ℤ, List, [], ◌∷◌, length, Some, slice_get, sym, ◌∙◌, ap, subst}
 use Rattle.std.proofs.lemmas.List.{length-set}
 use Rattle.std.proofs.lemmas.Option.{same_Some}

@@ -51,7 +51,7 @@ module _ (a : Automata) (c : Change) (b present : Box) (x y x' y' : Stack) (quie
         quiet = λ r in_none. absurd (nothing_in r in_none);
       }
 
-  -- the same, as the code makes it
+  -- the tables after a change, as the code makes them
   pub stay_known : (w : Option Range) (old new : KnownRows) (quiet' : List Require) → w ≡ a.window → quiet' ≡ [] → tables a x y quiet ≡ old →
       tables a x' y' quiet' ≡ new → IsChange c b (looked_at old.machine.window present) → before ≡ get_or b c.first before →
       now ≡ get_or (looked_at w present) c.first [] → before' ≡ get_or b (c.last - 1) before' →
@@ -66,7 +66,7 @@ module _ (a : Automata) (c : Change) (b present : Box) (x y x' y' : Stack) (quie
       (ap (λ v. get_or (reverse (looked_at v present)) (c.count - c.last) []) (sym window) ∙ sym e3)
       (subst (AreRowsOf b) (sym was) h))
 
--- they are made by the same plans
+-- tables after a change are made by the same plans
 pub tables_left : (a : Automata) (joints : Option Joints) (c : Change) (x y x' y' : Stack) (before now before' now' : List ℤ) →
     AreTables a x.planned y.planned joints → IsLeft c.first c.last c.gone_first before now x x' →
     IsLeft (c.count - c.last) (c.count - c.first) c.gone_last before' now' y y' → AreTables a x'.planned y'.planned joints

@@ -60,7 +60,7 @@ some_not_none : (o : Option Removal) → IsSome o → o ≡ None → ⊥
 some_not_none None some e = let z : ◌≡◌ {A = Bool} false true = some in cc
 some_not_none (Some r) some e = cc
 
--- of one term
+-- the course of one term
 
 module _ (rs : List Require) (term : ℕ) (a : Automata) (b : Box) where
   -- the course where no drop is possible
@@ -109,7 +109,7 @@ module _ (rs : List Require) (term : ℕ) (a : Automata) (b : Box) where
       going = λ l. (is_going there l, box, refuted);
     }
 
-  -- the first one, by what the tables of the machine tell
+  -- the first course, by what the tables of the machine show
   pub begun_course : (kept : Option TermKept) → IsKeptIfKnown rs term a b kept → IsBox b → (from last before : ℕ) (outside : Option ℕ) → (x : Automata) →
       x ≡ a → ((k : ℕ) → from < k → k ≤ last → IsUsableOf x k b) →
       ((k : ℕ) → IsUsableOf x k b → MayHaveDrop x outside k → (from < k) × (k ≤ last)) → IsRefutedOutside rs term a b outside →
@@ -157,7 +157,7 @@ module _ (rs : List Require) (term : ℕ) (a : Automata) (b : Box) where
         let on : c.before ≤ c.before = omega arith in
         record { found = first; course = h; on = on; past = λ e. absurd (some_not_none found some e) }
 
-    -- at its end there is none, nor up to a cell before the next one
+    -- at the end of a course there is no drop, nor up to a cell before its next one
 
     pub none_at_end : c.last ≤ c.before → IsFirstOf (IsTermDrop rs term a b) None
     none_at_end end r d = let g = h.holds r d in let l = g.0 in let m = g.1 in omega (arith, l, m, end)
@@ -168,7 +168,7 @@ module _ (rs : List Require) (term : ℕ) (a : Automata) (b : Box) where
     pub none_elsewhere : (k : ℕ) → k < c.before + 1 → IsFirstOf (IsDropAt rs term a b k) None
     none_elsewhere k lt r d = let l = (h.holds r d.1).0 in let is = d.0 in omega (arith, l, is, lt)
 
-  -- nor is one at the next cell of a course where none is anywhere
+  -- where no drop is anywhere, none is at the next cell of a course
   pub none_to_step : (c : Course) → c.before < past_all → (next : Course) → next ≡ record { before = past_all; last = 0; outside = None } →
       IsFirstOf (IsTermDrop rs term a b) None → IsStep rs term a b c (record { found = None; course = next })
   none_to_step c l next is none =
@@ -180,7 +180,7 @@ module _ (rs : List Require) (term : ℕ) (a : Automata) (b : Box) where
         past = λ e. past;
       }
 
--- as the code holds the requirements of the term
+-- the course of a term, as the code holds its requirements
 
 pub to_own : (own : TermRequirements) (rs : List Require) (term : ℕ) → own.all.now ≡ rs → own.term ≡ term → (P : List Require → ℕ → Type 0) →
     P rs term → P own.all.now own.term
@@ -241,7 +241,7 @@ set_here [] i x l = absurd (omega (arith, l))
 set_here (y ∷ xs) zero x l = refl
 set_here (y ∷ xs) (suc i) x l = set_here xs i x (omega (arith, l))
 
--- the least of one more
+-- the least of the courses, with one more
 
 pub less_before : (cs : List TermCourse) (i least less : ℕ) (e : TermCourse) → i < length cs → less ≡ min least (get_or cs i e).course.before →
     ((j : ℕ) (c : TermCourse) → j < i → slice_get cs j ≡ Some c → least ≤ c.course.before) → (j : ℕ) (c : TermCourse) → j < i + 1 →

@@ -72,7 +72,7 @@ module _ (rs : List Require) (term : ℕ) (a : Automata) (b : Box) (k : ℕ) whe
         ((contains_cons v rest t.value).0 (subst (λ l. Contains l t.value) e (h.ahead t g))),
   )
 
-  -- the same with the value as the code has it
+  -- the first of the values that are left is dropped, with the value as the code has it
   pub drop_found_as : (left rest : List ℤ) (v w : ℤ) (j : ℕ) → w ≡ v → AreLeft rs term a b k left → left ≡ v ∷ rest → IsUsableOf a k b →
       2 ≤ length (values_at k b) → IsFirstRefuting rs term (value_span a k b w) (Some j) →
       IsFirstOf (IsDropAt rs term a b k) (Some (record { cell = k; value = w; require = j }))
@@ -85,11 +85,11 @@ module _ (rs : List Require) (term : ℕ) (a : Automata) (b : Box) (k : ℕ) whe
   fewer_left_as left rest v w same h e f =
       fewer_left left rest v h e (subst (λ z. IsFirstRefuting rs term (value_span a k b z) None) same f)
 
-  -- none is left at last
+  -- where no value is left there is no drop
   pub none_left : (left : List ℤ) → AreLeft rs term a b k left → left ≡ [] → (t : Removal) → IsDropAt rs term a b k t → ⊥
   none_left left h e t d = nothing_in t.value (subst (λ l. Contains l t.value) e (h.ahead t d))
 
-  -- all are left at first
+  -- at first all values are left
   pub all_left : IsRising (values_at k b) → AreLeft rs term a b k (values_at k b)
   all_left rises = record { inside = λ u c. c; rises = rises; ahead = there }
 
@@ -118,7 +118,7 @@ module _ (rs : List Require) (term : ℕ) (a : Automata) (b : Box) (k : ℕ) whe
       subst (λ i. AreLeft rs term a b k (drop i (values_at k b))) e
       (left_along (to - from) from (omega (arith, e, within)) (subst (NoneBetween from) (sym e) none) left)
 
-  -- those whose spans have what is asked
+  -- values whose spans have what is asked are passed over
   pub left_met : (ends : Sides) (asked : Question) → ((s : Span) → Excludes asked s ↔ RefutesSome rs term s) → (from to : ℕ) → from ≤ to →
       to ≤ length (values_at k b) → AreMet asked (at_cell a b k ends) from to → AreLeft rs term a b k (drop from (values_at k b)) →
       AreLeft rs term a b k (drop to (values_at k b))
@@ -137,11 +137,11 @@ module _ (rs : List Require) (term : ℕ) (a : Automata) (b : Box) (k : ℕ) whe
   left_is_known left (Some r) h none = absurd (let z : ◌≡◌ {A = Bool} true false = none in cc)
 
 module _ (rs : List Require) (term : ℕ) (a : Automata) (b : Box) where
-  -- none at the first cells
+  -- no drop is at the first cells
   abbrev pub NoneUpTo : ℕ → Type 0
   NoneUpTo n = (t : Removal) → IsTermDrop rs term a b t → n < t.cell
 
-  -- the first at the next cell is the first of all
+  -- the first drop at the next cell is the first of all
   pub first_up_to : (n last : ℕ) (found : Option Removal) → IsSome found → NoneUpTo n → IsFirstOf (IsDropAt rs term a b (n + 1)) found → n + 1 ≤ last →
       IsFirstOf (IsDropUpTo rs term a b last) found
   first_up_to n last None some none first le = absurd (let z : ◌≡◌ {A = Bool} false true = some in cc)
@@ -280,7 +280,7 @@ module _ (rs : List Require) (ms : List Automata) (b : Box) where
         IsFirstOf (IsDropUpTo rs term a b to) y → IsFirstOf (DropBelow (term + 1)) (earlier_of x y)
     first_below_more = first_more (λ z. z < term) (λ z. z < term + 1) below below_or_same
 
-  -- it is by a requirement of some term
+  -- each drop is by a requirement of some term
   pub term_there : (n : ℕ) → AllByRecursion (λ (r : Require). r.term < n) rs → (t : Removal) → (d : MayDrop rs (spans_of ms) b t) →
       d.refuted.require.term < n
   term_there n each t d = each_at (λ (r : Require). r.term < n) rs (t.require - 1) d.refuted.require each d.refuted.is.1

@@ -30,7 +30,7 @@ module _ (a : Automata) (Excluded : Span → Type 0) (b : Box) (looks : LooksIn 
   pub none_outside : (Excluded (term_span a (last_looked a.window (length b)) b) → ⊥) → NoneBefore a Excluded b (first_looked a.window)
   none_outside none q early = ⊎_elim (λ in_window. in_window.0) (λ ex. absurd (none ex)) (between q early)
 
-  -- where it is, and some cell comes before the first one, that's the first of all
+  -- where the last cell that is looked at is excluded, and some cell comes before the window, cell 1 is the first of all
   pub first_of_outside : (first : ℕ) → first ≡ first_looked a.window → 1 < first → 1 ≤ length b → (a.pair ≡ None → ⊥) →
       Excluded (term_span a (last_looked a.window (length b)) b) → IsFirstCell a Excluded b (Some 1)
   first_of_outside first is lt any split ex =
@@ -43,7 +43,7 @@ module _ (a : Automata) (Excluded : Span → Type 0) (b : Box) (looks : LooksIn 
         λ q early. early.usable.from,
       )
 
-  -- the same, as the code asks
+  -- the cells before the window, as the code asks about them
 
   pub first_by_last : (first last : ℕ) → first ≡ first_looked a.window → last ≡ last_looked a.window (length b) → (first ≡ 1 → ⊥) → (a.pair ≡ None → ⊥) →
       Excluded (term_span a last b) → IsFirstCell a Excluded b (Some 1)

@@ -116,7 +116,7 @@ equal b x y given e f v w low high s r none =
     clash _ (and_from (ext_le (Int b) (Int b)) (ext_le (Int b) (Int b)) (le_refl (Int b)) (le_refl (Int b)))
     (none (Int b) (low_number given s b x r e v low, high_number given s b y r f w high))
 
--- a number that counts compares so with that of the bar
+-- a number that counts meets a comparison with that of the bar
 
 pub greatest_counts : (w : Ext) (o : Option Ends) → IfSome o (AreEnough (Refutes AtLeast w)) → IfSome o (AreEnough (Cuts Maximise (AsGood w)))
 greatest_counts w None h = h

@@ -25,7 +25,7 @@ read_hulls a b p k looks c usable is =
           omega (arith, from, to, end, first);
     })
 
--- the same at a cell that is looked at
+-- where a span is read at a cell that is looked at
 pub hulls_inside : (a : Automata) (b : Box) (k : ℕ) → LooksIn a b → HasCell k b → (a.pair ≡ None → k ≡ length b) → is_looked a.window k ≡ true →
     HasHulls a k b
 hulls_inside a b k looks c usable e = read_hulls a b k k looks c usable (sym (read_inside a.window k e))

@@ -42,7 +42,7 @@ spans_are_of_machines machines term a has = record {
   usable = λ p b. (to_machine machines term a has p b, from_machine machines term a has p b);
 }
 
--- every number is one of those
+-- every number lies in the span of all numbers
 every_held : (v : Ext) → Holds every_number v
 every_held NegInf = (refl, refl)
 every_held (Int x) = (refl, refl)

@@ -83,7 +83,7 @@ at_place values from i = get_or-drop from values i (pos 0)
 few_left : (values : List ℤ) (from to : ℕ) → from ≤ to → to ≤ length values → to - from ≤ length (drop from values)
 few_left values from to order inside = let e = length-drop from values in omega (arith, e, inside, order)
 
--- the front of a list of them
+-- the front of a list of spans
 
 pub front_long : (list : List ℤ) (from to : ℕ) → length list ≡ 64 → to ≤ from + 64 → length (take ((to - from) - 0) list) ≡ to - from
 front_long list from to long few =
@@ -115,7 +115,7 @@ module _ (asked : Question) (f : Body) (place : ℕ) (cells : Box) (values : Lis
       (split_found asked f place cells values (from + i) v row side same ahead (slice_get-get_or values (from + i) (pos 0) before) n is_n served p is width
       h))))
 
-  -- what is told of their hull is told of a span in which the question finds the same as in that of the values
+  -- what is said of the hull of the glued spans holds of a span in which the question finds the same as in those of the values
   pub many_split : (Told : Span → Type 0) (o : Option Pair) → IsPairOf f o → ((p : Pair) → o ≡ Some p → p.forward.wide ≡ is_wide p) →
       IsSide o (cells_after place cells) values side →
       ((p : Pair) → AreJoints p side.joints.now →
@@ -126,7 +126,7 @@ module _ (asked : Question) (f : Body) (place : ℕ) (cells : Box) (values : Lis
       let s = hull_over (λ i. glued_between p row (viewed side.row) (from + i) (get_or list i (pos 0)) n) (length list) in
       (s, split_some p is (width p refl) h, told p h.0)
 
--- their finish spans
+-- the finish spans of the values at places, whose list the loop reads
 pub many_last : (asked : Question) (a : Body) (place : ℕ) (cells : Box) (values : List ℤ) (row : AnyRow) (n from to : ℕ) (s : Span) →
     IsRowOf a (cells_before place cells) values row → IsTrue (is_automaton a) → IsServed (form_sides (form_of row)) a.mark n asked → n ≡ length cells →
     from ≤ to → to ≤ length values → s ≡ finish_along (lanes_of row) a (columns row) from (to - from) n →

@@ -1,4 +1,4 @@
--- What packed rows tell where they meet at a value is, as far as a question finds, the span of the value.
+-- What packed rows show where they meet at a value is, as far as a question finds, the span of the value.
 use Rattle.std.proofs.Common.{◌≡◌, ◌⊎◌, inl, inr, ⊎_elim, ℕ, ◌+◌, ◌-◌, ◌*◌, ◌<◌, ◌≤◌, ℤ, false, IsTrue, List, ◌∷◌, [], ◌++◌, length, map, take, drop, slice_get, get_or, Option, Some, None, refl, sym, ap, ◌∙◌, subst, arith}
 use Rattle.std.specs.Prelude.{IsSome, IfSome, flat_map, option_map}
 use Rattle.std.specs.List.{range_with_len}
@@ -66,13 +66,13 @@ hull_there m a before values i q v row is e lt =
     ∙ ap (λ w. get_or (take w (drop (i * s) whole)) q none) (sym wide)
     ∙ ap (λ l. get_or l q none) (row_block a before values i v whole _ s refl refl e refl))
 
--- there is one for each state
+-- there is a packed hull for each state
 pub place_there : (m : ℕ) (a : Body) (before : Box) (values : List ℤ) (i : ℕ) (v : ℤ) (row : Columns m) (s : ℕ) → s ≡ length a.states →
     IsPackedRow m a before values row → slice_get values i ≡ Some v → HasPlace m s i row
 place_there m a before values i v row s is_s is e =
     subst (λ k. HasPlace m k i row) (sym is_s) (row_place m (length a.states) (length values) i row is.is_row (slice_get_within values i v e))
 
--- and one at each place before another
+-- there is a packed hull at each place before another
 pub places_there : (m : ℕ) (a : Body) (before : Box) (values : List ℤ) (row : Columns m) (s : ℕ) → s ≡ length a.states → IsPackedRow m a before values row →
     (to : ℕ) → to ≤ length values → HavePlaces m s to row
 places_there m a before values row s is_s is to inside =
@@ -117,7 +117,7 @@ module _ (asked : Question) where
       subst (λ z. FindsAlike asked (marked_span p.forward.mark n z) (glued_span p (with_hull q h) (with_hull r k) x n))
       (sym (glue_span_seen s p (with_hull q h) (with_hull r k) x alone)) (served (glue_span_at p (with_hull q h) (with_hull r k) x))
 
-  -- at the last cell
+  -- the finish span at the last cell
   finish_found : (m : ℕ) (a : Body) (before : Box) (values : List ℤ) (i : ℕ) (v : ℤ) (row : Columns m) (n : ℕ) → IsPackedRow m a before values row →
       slice_get values i ≡ Some v → IsTrue (is_automaton a) → (sides m ≡ BothEnds) ⊎ (a.wide ≡ false) → IsServed (sides m) a.mark n asked →
       FindsAlike asked (finish_hull m a row i n) (hull_of_spans (finishes a (hulls_at a before v) n (length a.states)))
@@ -130,7 +130,7 @@ module _ (asked : Question) where
       (each_map (λ q. finish_seen (sides m) a (with_hull q (there q)) n) (λ q. finish_span_of a (standing_of hs q) n) all
       (λ q. finish_one (sides m) a q (get_or hs q none) n rules alone served))
 
-  -- the same of a row in any form
+  -- the finish span of a row in any form
   pub finish_alike : (a : Body) (before : Box) (values : List ℤ) (i : ℕ) (v : ℤ) (row : AnyRow) (n : ℕ) → IsRowOf a before values row →
       slice_get values i ≡ Some v → IsTrue (is_automaton a) → IsServed (form_sides (form_of row)) a.mark n asked →
       FindsAlike asked (finish_hull (lanes_of row) a (columns row) i n) (hull_of_spans (finishes a (hulls_at a before v) n (length a.states)))
@@ -155,7 +155,7 @@ module _ (asked : Question) where
       (λ q. each_map (λ r. glued_seen s p (with_hull q (hl q)) (with_hull r (hr r)) x cells) (λ r. glued_span p (standing_of ls q) (standing_of rs r) x cells)
       (range_with_len 0 k) (λ r. glued_one s p q r (get_or ls q none) (get_or rs r none) x cells alone served)))
 
--- at another one
+-- the glued span at another cell
 
 module _ (asked : Question) (f : Body) (before behind : Box) (values : List ℤ) (i : ℕ) (v : ℤ) (e : slice_get values i ≡ Some v) (p : Pair) (n : ℕ)
     (is : p.forward ≡ f) (width : p.forward.wide ≡ is_wide p) where
@@ -196,7 +196,7 @@ pub as_wide : (m : Machine) (p : Pair) → pair_of m ≡ Some p → p.forward.wi
 as_wide m p e = (facts_of p (machines_keep_rules m p e).0).forward_width
 
 module _ (f : Body) (before behind : Box) (values : List ℤ) (row : AnyRow) (side : BackSide) (ahead : IsRowOf f before values row) where
-  -- they meet in a form of rows of such automata
+  -- the rows of a pair of automata meet in a form of their width
   pub width_there : (o : Option Pair) → IsPairOf f o → ((p : Pair) → o ≡ Some p → p.forward.wide ≡ is_wide p) → IsSide o behind values side →
       IsFormOf side.joints.now.wide (form_of row)
   width_there None is width h = absurd h
@@ -232,7 +232,7 @@ module _ (f : Body) (before behind : Box) (values : List ℤ) (i : ℕ) (v : ℤ
       place_there (lanes_of (viewed side.row)) p.reverse behind values i v (columns (viewed side.row)) side.joints.now.right_states h.0.right_states
       h.1.packed e
 
--- with what is told there
+-- what is known where two rows meet
 
 module _ (asked : Question) (f : Body) (place : ℕ) (cells : Box) (values : List ℤ) (i : ℕ) (v : ℤ) (row : AnyRow) (side : BackSide)
     (same : form_of (viewed side.row) ≡ form_of row) (ahead : IsRowOf f (cells_before place cells) values row) (e : slice_get values i ≡ Some v) (n : ℕ)
@@ -273,7 +273,7 @@ some_by s glued split t found told =
       },
     )
 
--- at the last cell
+-- a span with the finish span is an answer at the last cell
 pub last_found : (s : SoFar) (o : Option SoFar) (a : Body) (place : ℕ) (cells : Box) (values : List ℤ) (i : ℕ) (v : ℤ) (row : AnyRow) (n : ℕ) (part : Span) →
     IsRowOf a (cells_before place cells) values row → slice_get values i ≡ Some v → IsTrue (is_automaton a) →
     IsServed (form_sides (form_of row)) a.mark n s.asked → n ≡ length cells → part ≡ finish_hull (lanes_of row) a (columns row) i n →

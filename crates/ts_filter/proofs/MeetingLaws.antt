@@ -29,7 +29,7 @@ one_forgotten old each each' term x y h lt is machine known now = record {
   known = λ b. subst (λ l. AllWithin (AreKnown b) l 0 (term + 1)) (sym now) (AllWithin-more_set each term y lt (AreKnown b) (h.known b) (known _));
 }
 
--- those before `term` follow a box to a later one
+-- the tables of the terms before `term` follow a box to a later one
 
 pub record HaveMet (cells later : Box) (old each : List KnownRows) (term : ℕ) : Type 0 where
   pub machines : machines_of each ≡ machines_of old
@@ -41,7 +41,7 @@ as_many old each h = sym (length-map each machine_of) ∙ ap length h ∙ length
 
 module _ (cells later : Box) (old each : List KnownRows) (term : ℕ) (x : KnownRows) (h : HaveMet cells later old each term) (lt : term < length each)
     (is : x ≡ get_or each term x) where
-  -- the next one is as it was
+  -- the tables of the next term are as they were
 
   as_it_was : get_or old term x ≡ x
   as_it_was = sym (h.rest term x (omega arith)) ∙ sym is

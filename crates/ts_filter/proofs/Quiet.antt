@@ -26,7 +26,7 @@ use Rattle.ts_filter.proofs.Looked.{value_looked}
 use Rattle.ts_filter.proofs.SoundLaws.{clash}
 
 module _ (rs : List Require) (term : ℕ) where
-  -- those of the term among all
+  -- the requirements of the term among all
 
   abbrev is_own : Require → Bool
   is_own r = nat_eq r.term term
@@ -43,11 +43,11 @@ module _ (rs : List Require) (term : ℕ) where
         | inr there ↦ (let more = rest there in ((contains_cons q qs r).1 (inr more.0), more.1))
       ]
 
-  -- those at the first places that are of the term are among the others
+  -- the requirements of the term at the first places are among the others
   abbrev pub AmongUpTo : List Require → ℕ → Type 0
   AmongUpTo others at = (i : ℕ) (r : Require) → slice_get rs i ≡ Some r → r.term ≡ term → i < at → Contains others r
 
-  -- before the first one there is none
+  -- before the first requirement of the term there is none
   pub none_missing_first : (others : List Require) (first : ℕ) → position is_own rs ≡ Some first → AmongUpTo others first
   none_missing_first others first e i r at of_term lt =
       absurd (clash _ (ap is_own (get_or_from_slice_get rs i r r at) ∙ eq-eqb r.term term of_term) ((position-Some is_own rs first r e).2 i lt))
@@ -104,7 +104,7 @@ module _ (rs : List Require) (term : ℕ) where
         place_of i lt is =
             let back : i + 1 - 1 ≡ i = omega arith in ap (slice_get rs) back ∙ slice_get-get_or rs i r lt ∙ ap (λ z. Some z) is
 
-    -- and where none of them is, and none outside, nothing is found
+    -- where no requirement of the term is refuted at a cell that is looked at, nor outside, nothing is found
     pub none_where_quiet : (others : List Require) (outside : Option ℕ) → outside ≡ None → AreAmong rs term others →
         ((r : Require) → Contains others r → IsQuiet a (looked_at a.window b) r) → IsRefutedOutside rs term a b outside →
         IsFirstOf (IsTermDrop rs term a b) None
@@ -123,7 +123,7 @@ module _ (rs : List Require) (term : ℕ) where
             (subst (λ l. 2 ≤ length l) (sym values) h.many) (subst (λ l. Contains l t.value) (sym values) h.there)
             (subst (Refutes own.require.op own.require.bound) (value_looked a t.cell b t.value e) own.refutes)
 
-  -- tables that remember it
+  -- tables that remember that nothing was found
   pub remembered : (a : Automata) (x y : Stack) (quiet quiet' : List Require) (old new : KnownRows) → (old.machine.pair ≡ None → ⊥) →
       quiet' ≡ filter is_own rs → tables a x y quiet ≡ old → tables a x y quiet' ≡ new → KnownWhereNone rs term old new
   remembered a x y quiet quiet' old new split is was now =
@@ -151,7 +151,7 @@ none_told : (o : Option ℕ) (told : Bool) → is_some o ≡ not told → told �
 none_told None told is so = refl
 none_told (Some j) told is so = absurd (clash (not told) (sym is) (ap not so))
 
--- the same, as the code holds the requirements of a term
+-- tables that remember it, as the code holds the requirements of a term
 
 module _ (own : TermRequirements) (rs : List Require) (term : ℕ) (is_all : own.all.now ≡ rs) (is_term : own.term ≡ term) where
   pub found_of : (a : Automata) (b : Box) (found : Option Removal) → IsFirstOf (IsTermDrop own.all.now own.term a b) found →

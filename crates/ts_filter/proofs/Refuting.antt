@@ -24,7 +24,7 @@ no_require : Require
 no_require = record { term = 0; op = Equal; bound = NegInf }
 
 module _ (rs : List Require) (term : ℕ) (s : Span) where
-  -- none of the first requirements is one
+  -- the span refutes none of the first requirements
   abbrev pub NoneOf : ℕ → Type 0
   NoneOf at = (i : ℕ) → IsRefuting rs term s i → at < i
 
@@ -85,7 +85,7 @@ module _ (rs : List Require) (term : ℕ) (s : Span) where
         λ i g. let m = f i g in omega (arith, m),
       )
 
-  -- whether there is one
+  -- whether the span refutes some requirement of the term
   pub some_told : (o : Option ℕ) (told : Bool) → told ≡ is_some o → IsFirstRefuting rs term s o → (told ≡ true) ↔ RefutesSome rs term s
   some_told None told e none = (λ so. absurd (clash told so e), λ h. absurd (none h.0 h.1))
   some_told (Some j) told e first = (λ so. (j, first.0), λ h. e)
@@ -95,7 +95,7 @@ module _ (rs : List Require) (term : ℕ) (s : Span) where
       let below = behind (i - 1) h.require h.is.1 h.of_term in
       let above = f i h in let first = h.is.0 in omega (arith, l, below, above, first)
 
-  -- where the first one is the last, it tells of all
+  -- where the first requirement of the term is the last, it decides for all
   pub only_tells : (first end : ℕ) (d : Require) → position is_own rs ≡ Some first → NoneFrom rs term end → end ≤ first + 1 →
       Refutes (get_or rs first d).op (get_or rs first d).bound s ↔ RefutesSome rs term s
   only_tells first end d e behind last = (
@@ -151,7 +151,7 @@ none_from_before rs term end d f other i r e same =
     below : (end i : ℕ) → i < end → (i ≡ end - 1 → ⊥) → i < end - 1
     below end i l n = grind (arith, l, n)
 
--- the first one does, too
+-- the first requirement of the term stands before the place after the last one
 pub first_before : (rs : List Require) (term first end : ℕ) → position (λ r. nat_eq r.term term) rs ≡ Some first → NoneFrom rs term end → first < end
 first_before rs term first end e behind =
     let there = position-Some (λ r. nat_eq r.term term) rs first no_require e in

@@ -28,12 +28,12 @@ module _ (P Q : Removal → Type 0) where
   first_of_both (Some a) None p q = (inl p.0, λ t h. ⊎_elim (λ g. p.1 t g) (λ g. absurd (q t g)) h)
   first_of_both (Some a) (Some b) p q = choose a b p q (comes_before b a) refl
 
--- the first of the same ones, said otherwise
+-- the first removal that has one property is the first that has another one that says the same
 pub first_same : (P Q : Removal → Type 0) (x : Option Removal) → ((r : Removal) → P r → Q r) → ((r : Removal) → Q r → P r) → IsFirstOf P x → IsFirstOf Q x
 first_same P Q None f g h = λ t q. h t (g t q)
 first_same P Q (Some r) f g h = (f r h.0, λ t q. h.1 t (g t q))
 
--- those of Q after the first of P needn't be known
+-- removals with Q after the first one with P needn't be known
 
 module _ (P Q : Removal → Type 0) (n : ℕ) (inside : (t : Removal) → Q t → t.cell ≤ n) where
   wider : (a : Removal) (z : Option Removal) → P a → IsFirstOf (λ r. P r ⊎ (Q r × (r.cell ≤ a.cell))) z → IsFirstOf (λ r. P r ⊎ Q r) z

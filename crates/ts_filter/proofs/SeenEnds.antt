@@ -49,7 +49,7 @@ IsOneSided test = (low v high : Ext) → IsTrue (ext_le low v) → IsTrue (ext_l
 abbrev pub IsKeptBy : Mark → ℕ → (Ext → Bool) → Type 0
 IsKeptBy mark n test = (e : Ext) → test (under_mark mark n e) ≡ test e
 
--- what is seen of a span tells
+-- what is seen of a span decides the test
 abbrev pub IsSeenBy : Sides → (Ext → Bool) → Type 0
 IsSeenBy ends test = (s : Span) → NoneMeets test (seen ends s) ↔ NoneMeets test s
 
@@ -123,7 +123,7 @@ module _ (test : Ext → Bool) where
           then_so (splits u (marked_span mark n (seen ends s)))
           (then_so (both_so (λ h. h, λ h. h) one) (back_so (splits u (marked_span mark n s))))
 
-  -- of what goes on upwards, the upper end tells
+  -- the upper end decides a test that goes on upwards
 
   abbrev pub GoesUp : Type 0
   GoesUp = (v w : Ext) → IsTrue (ext_le v w) → test w ≡ false → test v ≡ false
@@ -214,7 +214,7 @@ module _ (b : Ext) (mark : Mark) (n : ℕ) where
       by_not false true f = sym f
       by_not false false f = refl
 
--- a number that counts compares so with that of the bar
+-- a number that counts meets a comparison with that of the bar
 
 counts_so : (op : Op) (goal : Goal) (w : Ext) (bar : Bar) → ((v : Ext) → counts goal bar v ≡ compares op w v) →
     (s : Span) → Refutes op w s ↔ Cuts goal bar s

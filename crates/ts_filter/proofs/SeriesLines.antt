@@ -31,7 +31,7 @@ before_trans (a ∷ x) (b ∷ y) (c ∷ z) p q =
     (λ f. ⊎_elim (λ g. inl (subst (λ u. u <ℤ c) (sym f.0) g)) (λ g. inr (f.0 ∙ g.0, before_trans x y z f.1 g.1)) q)
     p
 
--- each comes after the one before it
+-- each series comes after the one before it
 abbrev pub Climbs : List (List ℤ) → Type 0
 Climbs [] = Unit {0}
 Climbs (x ∷ []) = Unit {0}

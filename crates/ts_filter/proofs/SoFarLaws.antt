@@ -1,4 +1,4 @@
--- A span of which the parts are taken in: more parts, and what a front that has what is asked tells of all parts.
+-- A span of which the parts are taken in: more parts, and what a front that has what is asked shows of all parts.
 use Rattle.std.proofs.Common.{◌≡◌, ◌↔◌, ℕ, ◌+◌, ◌<◌, ◌≤◌, ℤ, List, [], ◌∷◌, ◌++◌, length, map, take, drop, slice_get, Bool, true, false, cond, refl, sym, ap, ◌∙◌, subst}
 use Rattle.std.specs.Prelude.{fold, is_some, Option, None, Some, Result, Ok, Err}
 use Rattle.std.specs.Result.{result_ok, result_err}
@@ -56,7 +56,7 @@ fold_canonical (t ∷ ss) s h = fold_canonical ss (span_hull s t) (hull_canonica
 
 -- more parts
 
--- one part more by its hull
+-- one part more, where its hull is known
 pub one_told : (s : SoFar) (part both : Span) (told : Bool) → both ≡ span_hull s.span part → (told ≡ true) ↔ Excludes s.asked both →
     (told ≡ true → WithParts s (part ∷ []) (Some (record { asked = s.asked; span = both }))) × (told ≡ false → WithParts s (part ∷ []) None)
 one_told s part both told is h = (
@@ -78,14 +78,14 @@ finds_alone asked s u =
     subst (λ z. AreAlike asked z (span_hull u s)) (sym (ap (span_hull u) (hull_comm none_span s) ∙ sym (hull_assoc u s none_span) ∙ hull_canonical u s))
     (alike_self asked (span_hull u s))
 
--- what is excluded of one of two spans is of the other
+-- what one of two spans that a question finds alike excludes, the other one excludes
 pub excludes_found : (asked : Question) (s t : Span) → FindsAlike asked s t → Excludes asked s → Excludes asked t
 excludes_found asked s t h none =
     part_excludes asked t (span_hull none_span t) (hull_right none_span t)
     (excludes_so asked (span_hull none_span s) (span_hull none_span t) (h none_span)
     (part_excludes asked (span_hull none_span s) s (alone_within s) none))
 
--- and so is the first of the requirements that are asked about
+-- the first requirement that is refuted by one of two spans that are alike is refuted first by the other one
 
 alone_refuted : (r : Require) (s : Span) → Refutes r.op r.bound s ↔ Refutes r.op r.bound (span_hull none_span s)
 alone_refuted r s = (λ none v held. none v (alone_within s v held), λ none v held. none v (hull_right none_span s v held))
@@ -98,7 +98,7 @@ first_found own asked asks s t found h first =
     let one = alone_refuted r s in let same = both r there of_term in let other = alone_refuted r t in
     (λ none. other.1 (same.0 (one.0 none)), λ none. one.1 (same.1 (other.0 none)))) first
 
--- with a part in which the question finds the same
+-- a part in which the question finds the same
 pub part_found : (s : SoFar) (part other : Span) (o : Option SoFar) → FindsAlike s.asked part other → WithParts s (part ∷ []) o → WithParts s (other ∷ []) o
 part_found s part other None found stop = λ none.
     let both = finds_joined s.asked s.span part other found in

@@ -1,4 +1,4 @@
--- What no number of a span does is told by its ends.
+-- What no number of a span does is decided by its ends.
 use Rattle.std.proofs.Common.{◌≡◌, ◌&&◌, ◌↔◌, Bool, true, false, not, refl, sym, ◌∙◌, ap, arith}
 use Rattle.std.proofs.lemmas.Bool.{and_from, and_parts, not_from_false, not_from_true, not-false, not-true}
 use Rattle.std.specs.Prelude.{◌||◌, IsTrue}
@@ -45,7 +45,7 @@ one_of false v f = refl
 
 -- comparisons
 
--- none of the numbers between the ends compares so
+-- none of the numbers between the ends meets the comparison
 ends_exclude : (op : Op) (b lo hi v : Ext) → ends_refute op b lo hi ≡ true → IsTrue (ext_le lo v) → IsTrue (ext_le v hi) → compares op b v ≡ false
 ends_exclude Equal b lo hi v h p q =
     not_both (ext_le v b) (ext_le b v) (ext_le lo b) (ext_le b hi) h (λ e. le_trans lo v b p e) (λ e. le_trans b v hi e q)
@@ -57,7 +57,7 @@ ends_exclude AtLeast b lo hi v h p q = false_by (ext_le b v) (ext_le b hi) (λ e
 ends_exclude Below b lo hi v h p q = not_from_true (ext_le b v) (le_trans b lo v h p)
 ends_exclude Above b lo hi v h p q = not_from_true (ext_le v b) (le_trans v hi b q h)
 
--- where neither end nor the bound between them compares so, the ends tell it
+-- where neither end nor the bound between them meets the comparison, the ends decide it
 ends_tell : (op : Op) (b : Ext) (s : Span) → IsTrue (ext_le s.lo s.hi) → Refutes op b s → ends_refute op b s.lo s.hi ≡ true
 ends_tell Equal b s some f = one_of (ext_le s.lo b) (ext_le b s.hi) (λ p q. clash (le_refl b) (f b (p, q)))
   where
@@ -108,7 +108,7 @@ cuts_exact goal bar s = by_some (has_some s) refl
     by_some true e = (λ h v i. end_excludes goal bar s v h i, λ f. end_tells goal bar s e f)
     by_some false e = (λ h v i. absurd ((none_held s).0 e v i), λ f. refl)
 
--- of a span that isn't none
+-- what a span that isn't none refutes is decided by its ends
 pub some_refutes : (op : Op) (b : Ext) (s : Span) (none told : Bool) → none ≡ not (has_some s) → none ≡ false → told ≡ ends_refute op b s.lo s.hi →
     IsTrue told ↔ Refutes op b s
 some_refutes op b s none told e f g =

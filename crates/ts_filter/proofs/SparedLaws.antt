@@ -52,7 +52,7 @@ found_in_map f [] i y e = absurd (none-some y e)
 found_in_map f (x ∷ xs) zero y e = (x, refl, sym (same_Some (f x) y e))
 found_in_map f (x ∷ xs) (suc i) y e = found_in_map f xs i y e
 
--- the same list with its first i elements mapped
+-- a list with its first i elements mapped
 module _ {X : Type 0} (f : X → X) where
   abbrev pub mapped : ℕ → List X → List X
   mapped zero xs = xs
@@ -64,7 +64,7 @@ module _ {X : Type 0} (f : X → X) where
   more_mapped zero (y ∷ xs) x l e = ap (λ z. f z ∷ xs) e
   more_mapped (suc i) (y ∷ xs) x l e = ap (λ zs. f y ∷ zs) (more_mapped i xs x (omega (arith, l)) e)
 
-  -- one more, as the code changes it
+  -- one more element is mapped, as the code changes it
   pub next_mapped : (i : ℕ) (xs now later : List X) (x y : X) → now ≡ mapped i xs → i < length xs → x ≡ get_or now i x → y ≡ f x → later ≡ set now i y →
       later ≡ mapped (i + 1) xs
   next_mapped i xs now later x y is l e same put =
@@ -122,7 +122,7 @@ pub cell_sized : (terms cells term k : ℕ) (limit : ℤ) (kept : List TermKept)
     AreSized terms cells (with_known (with_spared k limit) term kept)
 cell_sized terms cells term k limit kept h = more_sized (with_spared k limit) terms cells term kept (λ t. length-set t.cells (k - 1) limit) h
 
--- no value of a cell is so low
+-- no value of a cell is up to the limit below all values
 under_all : (v l : ℤ) → l ≡ below_all → IsCellValue v → v ≤ℤ l → ⊥
 under_all v l e c at = let low = c.0 in omega (arith, ints, e, low, at)
 
@@ -177,7 +177,7 @@ module _ (rs : List Require) (s : Spans) (b : Box) where
           subst (λ n. IsSpared rs s b term n l) next (subst (IsSpared rs s b term k) (sym g.2) new)
       by_cell i u l there (inr g) = h.spared term i u l there g
 
--- of each machine
+-- what is known of each machine
 
 module _ (rs : List Require) (ms : List Automata) (b : Box) (kept : List TermKept) (h : AreKept rs (spans_of ms) b kept) where
   term_of : (term : ℕ) (t : TermKept) (a : Automata) → slice_get kept term ≡ Some t → slice_get ms term ≡ Some a → LooksIn a b → IsTermKept rs term a b t
@@ -196,7 +196,7 @@ module _ (rs : List Require) (ms : List Automata) (b : Box) (kept : List TermKep
       by_entry None e = tt
       by_entry (Some t) e = term_of term t a e has (looks_of b ms term looks a has)
 
--- of one machine
+-- what is known of one machine
 
 module _ (rs : List Require) (term : ℕ) (a : Automata) (b : Box) (kept : Option TermKept) (h : IsKeptIfKnown rs term a b kept) where
   pub none_outside : is_alive_in kept ≡ true → IsRefutedOutside rs term a b None
@@ -220,7 +220,7 @@ module _ (rs : List Require) (term : ℕ) (a : Automata) (b : Box) (kept : Optio
       by_entry None g m = λ r c at d. under_all r.value limit m c at
       by_entry (Some t) g m = by_mark t g (slice_get t.cells (k - 1)) refl m
 
-  -- a value of a cell is one
+  -- a value of a cell is one that a cell may have
   cell_value : (k : ℕ) (v : ℤ) → IsBox b → 1 ≤ k → k ≤ length b → Contains (values_at k b) v → IsCellValue v
   cell_value k v box from to has =
       each_contains WithinLimits (values_at k b) v (domain_at b (k - 1) box (omega (arith, from, to))).within has
@@ -299,7 +299,7 @@ module _ (rs : List Require) (term : ℕ) (a : Automata) (b : Box) (k : ℕ) (li
       (λ j h. spared (record { cell = k; value = v; require = j }) (each_contains WithinLimits all v within there) (up n v (omega arith) is)
       (refl, record { usable = usable; many = many; there = there; refuting = h })))
 
--- as the code holds the requirements of the term
+-- what is known of a term, as the code holds its requirements
 pub kept_of_own : (own : TermRequirements) (rs : List Require) (term : ℕ) (a : Automata) (b : Box) (kept : Option TermKept) → own.all.now ≡ rs →
     own.term ≡ term → IsKeptIfKnown rs term a b kept → IsKeptIfKnown own.all.now own.term a b kept
 kept_of_own own rs term a b kept is_all is_term h =
@@ -330,13 +330,13 @@ last_of_equals : (term : ℕ) (a : Automata) → slice_get (replicate (suc term)
 last_of_equals zero a = refl
 last_of_equals (suc term) a = last_of_equals term a
 
--- where nothing is known of them
+-- where nothing is known of single values
 pub nothing_told : {A : Type 0} (knows : List Require → Spans → Box → A → Type 0) (rs : List Require) (term : ℕ) (a : Automata) (b : Box) (x : A) →
     ((s : Spans) → knows rs s b x) → LooksIn a b → Tells knows rs term a b x
 nothing_told knows rs term a b x h looks =
     let ms = replicate (suc term) a in of_machines knows rs ms b x (h (spans_of ms)) term a (last_of_equals term a) looks
 
--- what is told of the values from one on, up to a number
+-- what is known of the values from a given one on, up to a number
 
 pub past_value : (values : List ℤ) (i n : ℕ) (v limit : ℤ) → AreAbove values n limit → slice_get values i ≡ Some v → v ≤ℤ limit → i < n
 past_value values i n v limit above here up = by_order (split i n)

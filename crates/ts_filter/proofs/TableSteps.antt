@@ -51,7 +51,7 @@ lower : (m n : ℕ) → m ≤ n → (m ≡ n → ⊥) → m < n
 lower m n l ne = grind (arith, l, ne)
 
 module _ (b : Box) (t : KnownRows) (k : ℕ) (h : HasHulls t.machine k b) where
-  -- they are so many
+  -- the forward rows up to that of cell k are no more than the cells that are looked at
   pub ahead_count : k - first_looked t.machine.window + 1 ≤ length (looked_at t.machine.window b)
   ahead_count =
       let is = place_is t.machine k b h in let to = place_to t.machine k b h in let first = (ends_inside t.machine.window (length b) h.looks).0 in

@@ -1,4 +1,4 @@
--- What is told of the machines of terms, and their drops, one after the other.
+-- What is known of the machines of terms, and their drops, one after the other.
 use Rattle.std.proofs.Common.{◌≡◌, ℕ, zero, suc, ◌+◌, ◌<◌, List, [], ◌∷◌, length, set, get_or, Option, Some, sym, ap, ◌∙◌, subst, arith}
 use Rattle.std.specs.Prelude.{IfOk, Result, Ok, Err}
 use Rattle.std.proofs.lemmas.Option.{none-some, same_Some, slice_get-get_or, get_or_from_slice_get}
@@ -21,13 +21,13 @@ use Rattle.ts_filter.proofs.DropLaws.{DropBelow, first_below_more}
 abbrev machine_of : KnownRows → Automata
 machine_of t = t.machine
 
--- what is told of the machine that is read is told of the term's
+-- what holds of the machine that is read holds of the term's
 pub told_of_term : {T : Type 0} (all : List Automata) (term : ℕ) (x : Automata) (P : Automata → T → Type 0) (r : Result T Memory) →
     x ≡ get_or all term x → IfOk r (P x) → IfOk r (λ t. OfTerm all term (λ a. P a t))
 told_of_term all term x P (Ok t) is h = λ a has. subst (λ z. P z t) (is ∙ get_or_from_slice_get all term a x has) h
 told_of_term all term x P (Err e) is h = tt
 
--- there are as many as machines
+-- there are as many tables as machines
 pub machines_long : {seen : Box} (each : List KnownRows) {t : Tables} → record { machines = machines_of each; cells = seen } ≡ t →
     length t.machines ≡ length each
 machines_long each view = sym (ap (λ (u : Tables). length u.machines) view) ∙ length-map each machine_of
@@ -47,7 +47,7 @@ module _ {seen : Box} (each : List KnownRows) {t : Tables} {term : ℕ} {x : Kno
   machine_read : x.machine ≡ get_or t.machines term x.machine
   machine_read = ap machine_of is ∙ sym (get_or-map machine_of each term x x.machine there) ∙ ap (λ l. get_or l term x.machine) machines_are
 
-  -- before it
+  -- before a question to the tables of a term
 
   pub asked_of : (P : Automata → Type 0) → OfTerm t.machines term P → P x.machine
   asked_of P h = h x.machine (slice_get-get_or t.machines term x.machine lt ∙ ap Some (sym machine_read))
@@ -55,7 +55,7 @@ module _ {seen : Box} (each : List KnownRows) {t : Tables} {term : ℕ} {x : Kno
   pub known_of : (b : Box) → AreRowsOfEach seen each → t.cells ≡ b → AreKnown b x
   known_of b rows on = subst (λ z. AreKnown z x) (seen_is ∙ on) (subst (AreKnown seen) (sym is) (rows term x there))
 
-  -- after it
+  -- after a question to the tables of a term
 
   pub told_of : {T : Type 0} (P : Automata → T → Type 0) (r : Result T Memory) → IfOk r (P x.machine) → IfOk r (λ v. OfTerm t.machines term (λ a. P a v))
   told_of P r h = told_of_term t.machines term x.machine P r machine_read h

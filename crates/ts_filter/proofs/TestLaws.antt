@@ -1,4 +1,4 @@
--- The tests that compute tell what is refuted, cut and may be dropped.
+-- The tests that compute decide what is refuted, cut and may be dropped.
 use Rattle.std.proofs.Common.{◌≡◌, ◌↔◌, ◌&&◌, ℕ, ◌-◌, ◌≤◌, ℤ, Bool, true, false, List, length, Option, Some, None, slice_get, refl, sym, subst, arith}
 use Rattle.std.proofs.lemmas.Bool.{and_from, and_parts, leb-true, le-leb}
 use Rattle.std.proofs.lemmas.Cmp.{int_eq_equiv}

@@ -37,13 +37,13 @@ ClaimFits (ListOf count) (Full c) = c ≡ count
 ClaimFits (ListOf count) (All c) = c < count
 ClaimFits (ListOf count) (BudgetList c) = c < count
 
--- the last series before it comes earlier in lexicographic order
+-- a series comes after the last one before it, in lexicographic order
 abbrev pub ComesAfter : List (List ℤ) → List ℤ → Type 0
 ComesAfter [] x = Unit {0}
 ComesAfter (z ∷ []) x = IsBefore z x
 ComesAfter (z ∷ y ∷ zs) x = ComesAfter (y ∷ zs) x
 
--- it has the claimed objective, or it comes after the series before
+-- a series has the claimed objective, or it comes after the series before
 abbrev pub IsAsClaimed : ModelParts → Claim → List (List ℤ) → List ℤ → Type 0
 IsAsClaimed m (Best v) before x = objective_of m x ≡ Some v
 IsAsClaimed m Infeasible before x = Unit {0}
@@ -53,12 +53,12 @@ IsAsClaimed m (Full c) before x = ComesAfter before x
 IsAsClaimed m (All c) before x = ComesAfter before x
 IsAsClaimed m (BudgetList c) before x = ComesAfter before x
 
--- the rule of a series line, after these: it meets the model, and is as the claim says
+-- a series line keeps its rule after these series: its series meets the model, and is as the claim says
 pub record SeriesFits (m : ModelParts) (claim : Claim) (before : List (List ℤ)) (x : List ℤ) : Type 0 where
   pub meets : Meets m x
   pub claimed : IsAsClaimed m claim before x
 
--- each of the series lines keeps it
+-- each of the series lines keeps its rule
 abbrev pub AllFit : ModelParts → Claim → List (List ℤ) → List (List ℤ) → Type 0
 AllFit m claim before [] = Unit {0}
 AllFit m claim before (x ∷ xs) = SeriesFits m claim before x × AllFit m claim (before ++ x ∷ []) xs

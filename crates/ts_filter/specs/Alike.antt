@@ -19,7 +19,7 @@ use Rattle.ts_filter.specs.Excluded.{Refutes, Cuts}
 abbrev pub AreRefutedAlike : Op → Ext → Span → Span → Type 0
 AreRefutedAlike op bound s t = Refutes op bound s ↔ Refutes op bound t
 
--- each comparison that a question makes is; of an objective's best end, that it is the same
+-- both spans refute the same comparisons of a question, and have the same best end where that is asked for
 abbrev pub AreAlike : Question → Span → Span → Type 0
 AreAlike (Compares op bound) s t = AreRefutedAlike op bound s t
 AreAlike (MeetsEach own) s t =
@@ -27,7 +27,7 @@ AreAlike (MeetsEach own) s t =
 AreAlike (Counts goal bar) s t = Cuts goal bar s ↔ Cuts goal bar t
 AreAlike (Ranks goal) s t = best_end goal s ≡ best_end goal t
 
--- whatever other span is joined to both
+-- a question finds the same in both spans, whatever other span is joined to them
 abbrev pub FindsAlike : Question → Span → Span → Type 0
 FindsAlike asked s t = (u : Span) → AreAlike asked (span_hull u s) (span_hull u t)
 
@@ -35,6 +35,6 @@ FindsAlike asked s t = (u : Span) → AreAlike asked (span_hull u s) (span_hull 
 abbrev pub IsServed : Sides → Mark → ℕ → Question → Type 0
 IsServed ends mark n asked = (s : Span) → FindsAlike asked (marked_span mark n (seen ends s)) (marked_span mark n s)
 
--- under the mark each number compares so with the bound exactly where it did without
+-- under the mark each number meets the comparison with the bound exactly where it did without
 abbrev pub MarkKeeps : Mark → ℕ → Op → Ext → Type 0
 MarkKeeps mark n op bound = (v : Ext) → compares op bound (under_mark mark n v) ≡ compares op bound v

@@ -19,7 +19,7 @@ use Rattle.ts_filter.specs.Alike.{FindsAlike, IsServed}
 use Rattle.ts_filter.specs.Boxes.{Box, values_at}
 use Rattle.ts_filter.specs.Question.{Excludes}
 
--- what contracts see of them: whose they are, where, and which ends they have
+-- what contracts see of the hulls of a cell: whose they are, where, and which ends they have
 pub record AtCell : Type 0 where
   pub machine : Automata
   pub cells : Box
@@ -29,7 +29,7 @@ pub record AtCell : Type 0 where
 abbrev pub at_cell : Automata → Box → ℕ → Sides → AtCell
 at_cell a b k ends = record { machine = a; cells = b; cell = k; ends = ends }
 
--- their ends are enough for the question
+-- the ends of the hulls are enough for the question
 abbrev pub Serves : AtCell → Question → Type 0
 Serves t asked =
     IsServed t.ends t.machine.forward.mark (count_looked t.machine.window (length t.cells)) asked
@@ -76,13 +76,13 @@ pub record AreHulls (a : Automata) (b : Box) (k : ℕ) (row : AnyRow) (back : Op
   pub ahead : IsAheadRow a k b row
   pub behind : MatchOption back (k ≡ last_looked a.window (length b)) (IsBackSide a k b)
 
--- at each place from one on, before another, the span of the value that stands there has what is asked
+-- at each place from `from` on, before `to`, the span of the value that stands there has what is asked
 abbrev pub AreMet : Question → AtCell → (from to : ℕ) → Type 0
 AreMet asked t from to =
     Between from to (λ i. (v : ℤ) → slice_get (values_at t.cell t.cells) i ≡ Some v →
     Excludes asked (value_span t.machine t.cell t.cells v) → ⊥)
 
--- the values at the places from one on, before another
+-- the values at the places from `from` on, before `to`
 abbrev pub places_of : (from to : ℕ) → List ℤ → List ℤ
 places_of from to values = take (to - from) (drop from values)
 

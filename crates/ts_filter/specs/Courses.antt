@@ -15,7 +15,7 @@ use Rattle.ts_filter.specs.MachineSpans.{spans_of}
 use Rattle.ts_filter.specs.OfTerm.{OfTerm}
 use Rattle.ts_filter.specs.TermDrops.{IsDropAt, IsRefutedOutside, IsTermDrop}
 
--- more cells than come before any
+-- more cells than come before any cell
 abbrev pub past_all : ℕ
 past_all = 4294967295
 
@@ -23,7 +23,7 @@ past_all = 4294967295
 abbrev pub IsPassed : Option TermKept → Box → ℕ → Type 0
 IsPassed kept b k = (greatest_value ≤ℤ spared_in kept k) ⊎ (length (values_at k b) ≡ 1)
 
--- so are the cells after the first `from`, up to cell `to`, of the first `count`
+-- the cells after the first `from`, up to cell `to`, of the first `count`, are passed over
 abbrev pub ArePassed : Option TermKept → Box → (from to count : ℕ) → Type 0
 ArePassed kept b from to count = (k : ℕ) → from < k → k ≤ to → k ≤ count → IsPassed kept b k
 

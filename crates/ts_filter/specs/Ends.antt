@@ -15,7 +15,7 @@ use Rattle.ts_filter.specs.Excluded.{counts}
 abbrev pub ext_lt : Ext → Ext → Bool
 ext_lt a b = not (ext_le b a)
 
--- no number between the ends compares so with the bound
+-- no number between the ends meets the comparison with the bound
 abbrev pub ends_refute : Op → Ext → Ext → Ext → Bool
 ends_refute Equal b lo hi = ext_lt b lo || ext_lt hi b
 ends_refute Unequal b lo hi = ext_le b lo && ext_le hi b

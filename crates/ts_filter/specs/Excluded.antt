@@ -1,4 +1,4 @@
--- What no number of a span does: compare so with a bound, or count for a bar.
+-- What no number of a span does: meet a comparison with a bound, or count for a bar.
 use Rattle.std.specs.Prelude.{◌≡◌, Bool, false, not}
 use Rattle.ts_base.specs.declared.ext.Ext.{Ext}
 use Rattle.ts_base.specs.declared.goal.Goal.{Goal}
@@ -10,7 +10,7 @@ use Rattle.ts_model.specs.FirstBest.{is_better}
 use Rattle.ts_filter.specs.declared.bar.Bar.{Bar}
 use Rattle.ts_filter.specs.declared.bar.Bar.TheVariants.{Better, AsGood}
 
--- no number of the span compares so with the bound
+-- no number of the span meets the comparison with the bound
 abbrev pub Refutes : Op → Ext → Span → Type 0
 Refutes op bound s = (v : Ext) → Holds s v → compares op bound v ≡ false
 

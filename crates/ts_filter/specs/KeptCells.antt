@@ -37,14 +37,14 @@ abbrev pub IsAliveTerm : List Require → Spans → Box → ℕ → Type 0
 IsAliveTerm requirements s b term =
     (p j : ℕ) (r : Require) → IsRequirement requirements j r → r.term ≡ term → IsRefuted requirements s j p b → ⊥
 
--- what is marked is so
+-- what is marked of the terms holds
 pub record AreKept (requirements : List Require) (s : Spans) (b : Box) (kept : List TermKept) : Type 0 where
   pub alive : (term : ℕ) (t : TermKept) → slice_get kept term ≡ Some t → t.alive ≡ true →
       IsAliveTerm requirements s b term
   pub spared : (term i : ℕ) (t : TermKept) (limit : ℤ) → slice_get kept term ≡ Some t →
       slice_get t.cells i ≡ Some limit → IsSpared requirements s b term (i + 1) limit
 
--- nothing is known of a term and of so many cells
+-- nothing is known of a term and of `cells` cells
 abbrev pub unknown : ℕ → TermKept
 unknown cells = record { alive = false; cells = replicate cells below_all }
 
@@ -64,7 +64,7 @@ with_spared k limit t = record { alive = t.alive; cells = set t.cells (k - 1) li
 abbrev pub with_known : (TermKept → TermKept) → ℕ → List TermKept → List TermKept
 with_known more term kept = set kept term (more (get_or kept term (unknown 0)))
 
--- of so many terms and cells each
+-- what is known is of `terms` terms, and of `cells` cells each
 pub record AreSized (terms cells : ℕ) (kept : List TermKept) : Type 0 where
   pub terms_count : length kept ≡ terms
   pub cells_count : (term : ℕ) (t : TermKept) → slice_get kept term ≡ Some t → length t.cells ≡ cells
@@ -83,25 +83,25 @@ abbrev pub IsSparedAt : List Require → ℕ → Automata → Box → ℕ → �
 IsSparedAt requirements term a b k limit =
     (r : Removal) → IsCellValue r.value → r.value ≤ℤ limit → IsDropAt requirements term a b k r → ⊥
 
--- what is known of the term whose machine this is is so, by its spans in the whole box
+-- what is known of the term whose machine this is holds, by its spans in the whole box
 pub record IsTermKept (requirements : List Require) (term : ℕ) (a : Automata) (b : Box) (t : TermKept) : Type 0 where
   pub alive : t.alive ≡ true → (k j : ℕ) → IsUsable a k b → IsRefuting requirements term (term_span a k b) j → ⊥
   pub spared : (i : ℕ) (limit : ℤ) → slice_get t.cells i ≡ Some limit →
       IsSparedAt requirements term a b (i + 1) limit
 
--- what is known of the term whose machine this is, if anything is, is so, by its spans in the whole box
+-- what is known of the term whose machine this is, if anything is, holds, by its spans in the whole box
 abbrev pub IsKeptIfKnown : List Require → ℕ → Automata → Box → Option TermKept → Type 0
 IsKeptIfKnown requirements term a b None = Unit {0}
 IsKeptIfKnown requirements term a b (Some t) = IsTermKept requirements term a b t
 
--- what x knows is told by spans by which all drops are that the machine tells of
+-- x knows, of some spans, which values are spared, and each drop by the machine of the term is one by these spans
 pub record Tells {A : Type 0} (knows : List Require → Spans → Box → A → Type 0) (requirements : List Require)
     (term : ℕ) (a : Automata) (b : Box) (x : A) : Type 0 where
   pub spans : Spans
   pub known : knows requirements spans b x
   pub drops : (r : Removal) → IsTermDrop requirements term a b r → IsDrop requirements spans r.cell r.value r.require b
 
--- no value of cell k from v on is dropped, as far as is told, by a requirement of the term whose machine this is
+-- no value of cell k from v on is dropped, as far as is known, by a requirement of the term whose machine this is
 abbrev pub AreFree : List Require → ℕ → Automata → Box → ℕ → ℤ → Told → Type 0
 AreFree requirements term a b k v told =
     IsTrue told.free → (w : ℤ) → Contains (values_at k b) w → v ≤ℤ w → w ≤ℤ told.to →

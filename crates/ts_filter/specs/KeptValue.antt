@@ -25,7 +25,7 @@ abbrev pub IsKeptOver : Option Pair → Goal → (ℤ → Ext) → ℤ → ℤ �
 IsKeptOver None goal end v u = v ≤ℤ u
 IsKeptOver (Some p) goal end v u = IsPreferred goal end v u
 
--- of the values of cell k it is the one that is kept
+-- v is the value of cell k that is kept
 pub record IsKept (a : Automata) (goal : Goal) (k : ℕ) (b : Box) (v : ℤ) : Type 0 where
   pub there : Contains (values_at k b) v
   pub over : (u : ℤ) → Contains (values_at k b) u → IsKeptOver a.pair goal (end_with a goal k b) v u

@@ -35,7 +35,7 @@ pub record KnownRows : Type 0 where
   pub kept_behind : List Kept
   pub quiet : List Require
 
--- the ends that are kept of them
+-- the ends that are kept of the hulls
 abbrev pub ends_of : KnownRows → Sides
 ends_of t = form_sides t.form
 
@@ -70,22 +70,22 @@ pub record AreRowsOf (cells : Box) (t : KnownRows) : Type 0 where
   pub kept_behind : AreKeptBehind t.machine.pair (ends_of t) cells t.kept_behind
   pub quiet : (r : Require) → Contains t.quiet r → IsQuiet t.machine cells r
 
--- they are rows of the box, of the cells that the machine looks at
+-- the rows are those of the box, of the cells that the machine looks at
 abbrev pub AreKnown : Box → KnownRows → Type 0
 AreKnown b t = AreRowsOf (looked_at t.machine.window b) t
 
--- the machine is the one of before, and the rows are again those of the box
+-- the machine is the one from before, and the rows are again those of the box
 pub record StillKnown (b : Box) (old new : KnownRows) : Type 0 where
   pub machine : new.machine ≡ old.machine
   pub known : AreKnown b new
 
--- what was known of a box is known still, wherever no drop is possible by the requirements of the term
+-- what was known of a box is still known, wherever no drop is possible by the requirements of the term
 abbrev pub KnownWhereNone : List Require → ℕ → KnownRows → KnownRows → Type 0
 KnownWhereNone requirements term old new =
     (b : Box) → LooksIn old.machine b → IsFirstOf (IsTermDrop requirements term old.machine b) None → AreKnown b old →
     StillKnown b old new
 
--- the rows of cell k of these are known; of the last cell the forward one is enough
+-- the rows of cell k of these cells are known; of the last cell the forward one is enough
 pub record HasRowsAt (k : ℕ) (cells : Box) (t : KnownRows) : Type 0 where
   pub ahead : k ≤ length t.ahead
   pub behind : k < length cells → length cells - k < length t.behind

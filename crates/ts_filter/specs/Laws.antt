@@ -77,7 +77,7 @@ DropLosesNone =
     (m : ModelParts) (s : Spans) (k : ℕ) (v : ℤ) (j : ℕ) (b : Box) (x : List ℤ) → IsSound m s → IsPart b m.cells →
     IsDrop m.requirements s k v j b → InBox x b → Meets m x → InBox x (without k v b)
 
--- the tests tell it
+-- the tests that compute decide what is refuted, cut and may be dropped
 pub record AreTests (s : Spans) : Type 0 where
   pub refuted : (requirements : List Require) (j p : ℕ) (b : Box) →
       IsTrue (is_refuted requirements s j p b) ↔ IsRefuted requirements s j p b
@@ -122,11 +122,11 @@ TreeIsSteps =
     ((t : Tree) × (tree_lines t ≡ ls) × Fits m s h 0 b t × (told_after t 0 ≡ told))
     ↔ Steps m s h (b ∷ []) 0 ls [] told
 
--- a tree of this form for a box of S series has at most 2·S - 1 lines
+-- a tree that is formed, for a box of S series, has at most 2·S - 1 lines
 abbrev pub FormedIsShort : Type 0
 FormedIsShort = (t : Tree) (b : Box) → IsBox b → IsFormed b t → length (tree_lines t) + 1 ≤ 2 * series_in b
 
--- each tree whose lines keep their rules has it
+-- each tree whose lines keep their rules is formed
 abbrev pub FitIsFormed : Type 0
 FitIsFormed =
     (m : ModelParts) (s : Spans) (h : Head) (told : ℕ) (t : Tree) (b : Box) → IsBox b → Fits m s h told b t →
@@ -138,7 +138,7 @@ StepsLeaveFew =
     (m : ModelParts) (s : Spans) (h : Head) (ls : List TreeLine) (waiting : List Box) (told : ℕ) → IsBox m.cells →
     Steps m s h (m.cells ∷ []) 0 ls waiting told → length waiting + length m.cells ≤ total_of m.cells + 1
 
--- lines one after another
+-- lines that keep their rules and more that keep theirs after them keep their rules together
 abbrev pub StepsGoOn : Type 0
 StepsGoOn =
     (m : ModelParts) (s : Spans) (h : Head) (ls more : List TreeLine) (waiting left end : List Box)

@@ -21,7 +21,7 @@ pub record Stand : Type 0 where
   pub waiting : List Box
   pub told : ℕ
 
--- before the first line
+-- what stands before the first line
 abbrev pub first_stand : ModelParts → Stand
 first_stand m = record { aim = None; claim = None; series = []; waiting = m.cells ∷ []; told = 0 }
 
@@ -55,7 +55,7 @@ stand_after t (SaysSeries x) = record t { series = t.series ++ x ∷ [] }
 stand_after t (SaysTree l) = record t { waiting = waiting_after t.waiting l; told = told_by l t.told }
 stand_after t (SaysEnd checked unsearched) = t
 
--- each line keeps its rule, and they lead to this
+-- each line keeps its rule, and all of them lead to this stand
 abbrev pub Leads : ModelParts → Spans → Stand → List CertLine → Stand → Type 0
 Leads m s t [] u = t ≡ u
 Leads m s t (l ∷ ls) u = KeepsLine m s t l × Leads m s (stand_after t l) ls u

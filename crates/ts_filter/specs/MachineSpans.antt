@@ -1,4 +1,4 @@
--- The spans of a model's terms, as their machines tell them.
+-- The spans of a model's terms, as their machines have them.
 use Rattle.std.specs.Prelude.{◌≡◌, ◌↔◌, ◌≤◌, ℕ, ℤ, Bool, false, List, Contains, length, Option, Some, None, is_some}
 use Rattle.std.specs.Prelude.{slice_get}
 use Rattle.ts_base.specs.declared.ext.Ext.{Ext}
@@ -33,14 +33,14 @@ abbrev pub span_of : Option Automata → ℕ → Box → Span
 span_of None p b = every_number
 span_of (Some a) p b = term_span a p b
 
--- of the machines of the terms, in their order; of a term without one, which no model has, nothing is known
+-- the spans of the machines of the terms, in their order; of a term without one, which no model has, nothing is known
 abbrev pub spans_of : List Automata → Spans
 spans_of machines = record {
   reversible = λ term. is_split (slice_get machines term);
   span_at = λ term p b. span_of (slice_get machines term) p b;
 }
 
--- what is known of a term is what its machine tells
+-- what is known of a term is what its machine shows
 pub record AreOfMachine (machines : List Automata) (term : ℕ) (a : Automata) : Type 0 where
   pub span : (p : ℕ) (b : Box) → (spans_of machines).span_at term p b ≡ term_span a p b
   pub usable : (p : ℕ) (b : Box) → IsUsable (spans_of machines) term p b ↔ IsUsableOf a p b
@@ -56,7 +56,7 @@ HoldsTerm m term a =
     (p : ℕ) (b : Box) (x : List ℤ) (v : Ext) → IsPart b m.cells → IsUsableOf a p b → InBox x b →
     value_at m x term ≡ Some v → Holds (term_span a p b) v
 
--- on the box of one series, at the last cell, it holds the term's value alone
+-- on the box of one series, at the last cell, the span of the machine holds the term's value alone
 abbrev pub TellsTerm : ModelParts → ℕ → Automata → Type 0
 TellsTerm m term a =
     (x : List ℤ) (v : Ext) → InBox x m.cells → value_at m x term ≡ Some v →
@@ -75,7 +75,7 @@ MachinesTell =
     ((term : ℕ) (a : Automata) → slice_get machines term ≡ Some a → TellsTerm m term a) →
     TellsSingles m (spans_of machines)
 
--- what a call tells of the machine of a requirement's term, or of the objective, at a cell that may be used, is what is
+-- what a call shows of the machine of a requirement's term, or of the objective, at a cell that may be used, is what is
 -- defined of the spans of all
 pub record TellOf (m : ModelParts) (requirements : List Require) (s : Spans) (term : ℕ) (a : Automata) : Type 0 where
   pub refuted : (j p : ℕ) (b : Box) (r : Require) → IsRequirement requirements j r → r.term ≡ term → IsUsableOf a p b →
@@ -99,12 +99,12 @@ pub record AnswersTerm (m : ModelParts) (term : ℕ) (a : Automata) : Type 0 whe
   pub answers : (x : List ℤ) (v : Ext) → InBox x m.cells → value_at m x term ≡ Some v →
       answer a.forward (looked_at a.window x) ≡ v
 
--- one for each term, in their order
+-- there is a machine that answers each term, in their order
 pub record AnswerTerms (m : ModelParts) (machines : List Automata) : Type 0 where
   pub count : length machines ≡ length m.terms
   pub each : (term : ℕ) (a : Automata) → slice_get machines term ≡ Some a → AnswersTerm m term a
 
--- their spans hold the values of the terms, and tell that of a single series
+-- the spans of machines that answer their terms hold the values of the terms, and that value alone on a single series
 abbrev pub AnswersAreEnough : Type 0
 AnswersAreEnough =
     (m : ModelParts) (machines : List Automata) → IsBox m.cells → IsWhole m → AnswerTerms m machines →

@@ -39,7 +39,7 @@ pub record IsCut (m : ModelParts) (s : Spans) (goal : Goal) (p : ℕ) (b : Box) 
   pub usable : IsUsable s term p b
   pub cuts : Cuts goal bar (s.span_at term p b)
 
--- no number in it is better than v
+-- no number in the objective's span at p is better than v
 abbrev pub IsWorse : ModelParts → Spans → Goal → ℕ → Box → Ext → Type 0
 IsWorse m s goal p b v = IsCut m s goal p b (Better v)
 

@@ -51,7 +51,7 @@ abbrev pub IsListing : Aim → Type 0
 IsListing (BestOf goal) = ⊥
 IsListing (ListOf count) = Unit {0}
 
--- `yes`, after so many of them: the aim is `generate`, and the box is the next listed series alone
+-- `yes`, after some of these lines: the aim is `generate`, and the box is the next listed series alone
 pub record IsNext (h : Head) (told : ℕ) (b : Box) : Type 0 where
   pub listing : IsListing h.aim
   pub series : List ℤ
@@ -68,7 +68,7 @@ MayStayOpen (Full c) = Unit {0}
 MayStayOpen (All c) = ⊥
 MayStayOpen (BudgetList c) = Unit {0}
 
--- the line keeps its rule on the box, after so many `yes` lines
+-- the line keeps its rule on the box, after some `yes` lines
 abbrev pub KeepsRule : ModelParts → Spans → Head → ℕ → Box → TreeLine → Type 0
 KeepsRule m s h told b (Split k t) = IsSplit k t b
 KeepsRule m s h told b (Remove k v j) = IsDrop m.requirements s k v j b

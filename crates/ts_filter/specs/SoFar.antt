@@ -12,7 +12,7 @@ pub record IsSoFar (s : SoFar) : Type 0 where
   pub form : span_hull s.span none_span ≡ s.span
   pub excluded : Excludes s.asked s.span
 
--- with these parts, as far as the question finds; none where the hull has what is asked
+-- the hull with these parts, as far as the question finds; none where it has what is asked
 abbrev pub WithParts : SoFar → List Span → Option SoFar → Type 0
 WithParts s parts None = Excludes s.asked (fold span_hull s.span parts) → ⊥
 WithParts s parts (Some t) =

@@ -47,14 +47,14 @@ pub record IsTermDrop (requirements : List Require) (term : ℕ) (a : Automata) 
 abbrev pub IsDropAt : List Require → ℕ → Automata → Box → ℕ → Removal → Type 0
 IsDropAt requirements term a b k r = (r.cell ≡ k) × IsTermDrop requirements term a b r
 
--- these are the values of cell k that are left when others were found not to be dropped by these requirements
+-- the values are those of cell k that are left when others were found not to be dropped by these requirements
 pub record AreLeft (requirements : List Require) (term : ℕ) (a : Automata) (b : Box) (k : ℕ)
     (left : List ℤ) : Type 0 where
   pub inside : (v : ℤ) → Contains left v → Contains (values_at k b) v
   pub rises : IsRising left
   pub ahead : (r : Removal) → IsDropAt requirements term a b k r → Contains left r.value
 
--- it is the first drop at cell k; if there is none, these values are left
+-- the removal is the first drop at cell k; if there is none, these values are left
 abbrev pub IsFirstOrLeft : List Require → ℕ → Automata → Box → ℕ → List ℤ → Option Removal → Type 0
 IsFirstOrLeft requirements term a b k left None = AreLeft requirements term a b k left
 IsFirstOrLeft requirements term a b k left (Some r) = IsFirstOf (IsDropAt requirements term a b k) (Some r)

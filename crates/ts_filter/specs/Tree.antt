@@ -13,7 +13,7 @@ pub data Tree : Type 0 where
   Drop : ℕ → ℤ → ℕ → Tree → Tree
   Fork : ℕ → ℤ → Tree → Tree → Tree
 
--- its lines, those of the lower side first
+-- the lines of a tree, those of the lower side first
 abbrev pub tree_lines : Tree → List TreeLine
 tree_lines (Leaf l) = l ∷ []
 tree_lines (Drop k v j t) = Remove k v j ∷ tree_lines t
@@ -57,7 +57,7 @@ pub record Removes (k : ℕ) (v : ℤ) (b : Box) : Type 0 where
   pub there : Contains (values_at k b) v
   pub leaves : values_without v (values_at k b) ≢ []
 
--- whatever it is by, each split has two sides with values, and each drop removes a value of its cell and leaves one
+-- each split of a tree has two sides with values, and each drop removes a value of its cell and leaves one
 abbrev pub IsFormed : Box → Tree → Type 0
 IsFormed b (Leaf l) = IsLeafLine l
 IsFormed b (Drop k v j t) = Removes k v b × IsFormed (without k v b) t

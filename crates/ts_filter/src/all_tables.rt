@@ -64,7 +64,7 @@ impl<'a> Model for AllTables<'a> {
 }
 
 impl<'a> AllTables<'a> {
-    /// The tables of these machines, of which nothing is known yet. Questions will be put to the terms alone that the
+    /// The tables of these machines, of which nothing is known yet. Questions will be put only to the terms that the
     /// requirements or the objective name, of boxes with no more values than `cells`: that decides whether rows are
     /// kept, or made again for each question.
     pub fn new(
@@ -84,8 +84,8 @@ impl<'a> AllTables<'a> {
         Ok(AllTables::of(alloc, each, keeps))
     }
 
-    /// The tables of these machines, which they own, of which nothing is known yet. Questions will be put to the terms
-    /// alone that the requirements or the objective name, of boxes with no more values than `cells`.
+    /// The tables of these machines, which they own, of which nothing is known yet. Questions will be put only to the
+    /// terms that the requirements or the objective name, of boxes with no more values than `cells`.
     pub fn owning(
         alloc: Global,
         machines: Vec<Machine>,
@@ -105,7 +105,7 @@ impl<'a> AllTables<'a> {
 
     /// Makes the tables those of this box, and so forgets the rows that depend on a cell that differs. The row of a
     /// cell that only lost values shows the others alone, and shows these again once they are back. Each cell is
-    /// compared once, whatever number of terms look at it. After `Memory` they are of some box.
+    /// compared once, whatever number of terms look at it. After `Memory` the tables are those of some box.
     pub fn bring(&mut self, alloc: Global, cells: &Boxed) -> Result<(), Memory>
         requires looks { AllByRecursion (λ a. LooksIn a cells.now.present) self.old.machines }
         ensures machines { self.new.machines ≡ self.old.machines }
@@ -120,9 +120,9 @@ impl<'a> AllTables<'a> {
         )
     }
 
-    /// How many questions were put to the tables of all terms, each about one cell, and about how many values of cells
-    /// drops were looked for by spans, in all. No answer depends on it: it is for tests and for measuring, which see by
-    /// it what was spared.
+    /// How many questions were put to the tables of all terms, each about one cell, and how many values spans were
+    /// asked about when drops were looked for, in all. No answer depends on it: it is for tests and measurements, which
+    /// see by it what was spared.
     pub fn asked(&self) -> u64 {
         let mut count: u64 = 0;
         for tables in &self.each {
@@ -294,7 +294,7 @@ impl<'a> AllTables<'a> {
     }
 
     /// The possible drop with the least cell, then the least value, then the least requirement; none exactly where none
-    /// is possible. Nothing is asked of a machine at the cells that are kept, nor of a value told to be free. Drops are
+    /// is possible. Nothing is asked of a machine at the cells that are kept, nor of a value that is free. Drops are
     /// looked for cell by cell, in all terms: no later cell is asked about. Only if no rows are kept after a question,
     /// it is done one term after another.
     pub fn next_drop<S: Spares>(

@@ -38,16 +38,16 @@ use ts_glue::Machine;
 use ts_meet::Joints;
 use ts_model::Require;
 
-/// What one machine says of a box and of the boxes that it becomes. Rows of hulls are made when a question first needs
-/// them, only for the cells that the machine looks at; after a change those that it doesn't reach stay. The others
-/// aren't known then, but are kept: once a row after the changed cells comes out as it was, those after it are known
-/// too. The box isn't inside: each question takes it, and each change of it has to be reported by `meet_others`.
-/// Contracts see the machine and the rows that are known, forward ones from the first cell on that is looked at,
-/// backward ones from the last one back; those that are kept; and requirements by which no drop was found at a cell
-/// that is looked at, nor is any there before one of these cells changes. At each cell that was asked about, the value
-/// that showed last that some number does what is asked is `likely` to show it again. The rows have the one end of each
-/// register that is enough for what was asked, once anything was `asked`, or both ends. Tables that are `empty` have no
-/// rows and no such requirements, so that they needn't be told of a change. `questions` counts for tests.
+/// What one machine says of a box while the box changes. Rows of hulls are made when a question first needs them, only
+/// for the cells that the machine looks at; after a change those that it doesn't reach stay. The others aren't known
+/// then, but are kept: once a row after the changed cells comes out as it was, those after it are known too. The box
+/// isn't inside: each question takes it, and each change of it has to be reported by `meet_others`. Contracts see the
+/// machine and the rows that are known, forward ones from the first cell on that is looked at, backward ones from the
+/// last one back; those that are kept; and requirements by which no drop was found at a cell that is looked at, nor is
+/// any there before one of these cells changes. At each cell that was asked about, the value that showed last that some
+/// number does what is asked is `likely` to show it again. The rows have the one end of each register that is enough
+/// for what was asked, once anything was `asked`, or both ends. Tables that are `empty` have no rows and no such
+/// requirements, so they need not be told of a change. `questions` counts for tests.
 #[derive(Drop)]
 pub(crate) struct BoxTables<'a> {
     machine: HeldMachine<'a>,
@@ -240,13 +240,13 @@ impl<'a> BoxTables<'a> {
         Ok(())
     }
 
-    /// How many questions were put to these tables, each about one cell, and about how many values of cells drops were
-    /// looked for by spans, in all; after 2^64 it starts again at 0.
+    /// How many questions were put to these tables, each about one cell, and how many values spans were asked about
+    /// when drops were looked for, in all; after 2^64 it starts again at 0.
     pub(crate) fn questions(&self) -> u64 {
         self.questions
     }
 
-    /// Counts so many values of which spans are asked whether they are dropped.
+    /// Counts this many values about which spans are asked whether they are dropped.
     pub(crate) fn count_values(&mut self, count: u64)
         ensures { self.new ≡ self.old }
     {

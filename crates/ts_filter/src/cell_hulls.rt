@@ -48,7 +48,7 @@ use ts_domain::{Boxed, Domain};
 use ts_glue::Machine;
 use ts_meet::{Joints, Spot};
 
-/// After a value that pairs of states don't settle they are followed along the places if so many are left or more.
+/// After a value that pairs of states don't settle, pairs are followed along the places if this many or more are left.
 const MANY_PLACES: u64 = 16;
 
 /// The row of a cell of the reverse automaton, and how it is glued to the forward one.

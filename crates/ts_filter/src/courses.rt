@@ -24,7 +24,7 @@ use ts_base::limits::CELL_VALUE;
 use ts_domain::Boxed;
 use ts_model::Require;
 
-/// More cells than come before any.
+/// More cells than come before any cell.
 const PAST_ALL: u32 = u32::MAX;
 
 /// Where drops by the requirements of a term may still be: at the cells after the first `before`, up to cell `last`.

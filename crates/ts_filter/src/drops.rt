@@ -319,7 +319,7 @@ impl<'a> BoxTables<'a> {
 }
 
 /// The first of the drops at one cell by these requirements, none of which is of a value up to the limit; and how many
-/// values spans were asked about. They are asked about values alone of which it isn't told before that none is dropped.
+/// values spans were asked about: those alone of which it isn't known before that none is dropped.
 fn drop_in_cell<S: Spares>(
     hulls: &CellHulls<'_>,
     asked: Question<'_>,

@@ -12,7 +12,7 @@ use ts_base::{Ext, Goal};
 use ts_model::{Op, Require};
 use ts_sweep::packed::Ends;
 
-/// The greatest bound for which ends are looked for: one more is a number yet, and no infinity.
+/// The greatest bound for which ends are looked for: one more is still a number, and no infinity.
 const LARGEST: i64 = 1_000_000_000_000_000_000;
 
 /// Ends that every span reaches.
@@ -24,7 +24,8 @@ pub(crate) fn any_ends() -> Ends {
     }
 }
 
-/// Ends of spans in which some number compares so with the bound. There are none for `!=` and for infinite bounds.
+/// Ends of spans in which some number meets the comparison with the bound. There are none for `!=` and for infinite
+/// bounds.
 pub(crate) fn enough_to_compare(op: Op, bound: Ext) -> Option<Ends>
     ensures { IfSome result (AreEnough (Refutes op bound)) }
 {
@@ -34,7 +35,7 @@ pub(crate) fn enough_to_compare(op: Op, bound: Ext) -> Option<Ends>
     }
 }
 
-/// Ends of spans in which some number compares so with a number.
+/// Ends of spans in which some number meets the comparison with a number.
 fn enough_by(op: Op, b: i64) -> Option<Ends>
     requires { IsWithin 100 b }
     ensures { IfSome result (AreEnough (Refutes op (Int b))) }

@@ -9,8 +9,8 @@ use crate::bar::Bar;
 use ts_base::{Ext, Goal, Span};
 use ts_model::Op;
 
-/// Whether no number of the span compares so with the bound. A span that is none refutes every comparison, and `!=` is
-/// refuted by the span of the bound alone.
+/// Whether no number of the span meets the comparison with the bound. A span that is none refutes every comparison, and
+/// `!=` is refuted by the span of the bound alone.
 pub fn refutes(op: Op, bound: Ext, span: Span) -> bool
     ensures { IsTrue result ↔ Refutes op bound span }
 {
@@ -54,7 +54,7 @@ pub(crate) fn best_end(goal: Goal, span: Span) -> Ext
     }
 }
 
-/// Whether no number from `lo` to `hi` compares so with the bound, where `lo` isn't above `hi`.
+/// Whether no number from `lo` to `hi` meets the comparison with the bound, where `lo` isn't above `hi`.
 fn ends_refute(op: Op, bound: Ext, lo: Ext, hi: Ext) -> bool
     ensures { result ≡ ends_refute op bound lo hi }
 {

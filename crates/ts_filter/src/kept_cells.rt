@@ -57,14 +57,14 @@ impl KeptCells {
         Ok(KeptCells { each })
     }
 
-    /// Nothing is known any more.
+    /// Forgets all that is known.
     pub fn forget(&mut self)
         ensures { self.new ≡ map forgotten self.old }
     {
         forget_each(self.each.as_mut_slice());
     }
 
-    /// No requirement on the term is refuted at any cell.
+    /// Notes that no requirement on the term is refuted at any cell.
     pub fn keep_term(&mut self, term: usize)
         requires { term < length self.old }
         ensures { self.new ≡ with_known with_alive term self.old }
@@ -72,7 +72,7 @@ impl KeptCells {
         self.each[term].keep();
     }
 
-    /// No requirement on the term drops a value of cell `k`, counted from 1, that is at most `limit`.
+    /// Notes that no requirement on the term drops a value of cell `k`, counted from 1, that is at most `limit`.
     pub fn keep_cell(&mut self, term: usize, k: u32, limit: i64)
         requires term { term < length self.old }
         requires from { 1 ≤ k }
@@ -82,7 +82,7 @@ impl KeptCells {
         self.each[term].keep_cell(k, limit);
     }
 
-    /// What is known of the term; none where it isn't one of these.
+    /// What is known of the term; none where nothing is kept of it.
     pub(crate) fn of_term(&self, term: usize) -> Option<&KeptTerm>
         ensures { option_map (λ t. t.now) result ≡ slice_get self.now term }
     {

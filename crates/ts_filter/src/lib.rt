@@ -1,13 +1,13 @@
 //! What excludes boxes of a model from the search, and when a certificate of that is accepted.
 //!
-//! The layer above may rely on this: `refutes` and `cuts` answer exactly whether no number of a span compares so with a
-//! bound, or counts for a bar. The calls on a machine and a box answer this of the box's span at a cell, and name
-//! the first cell, the first drop and the value to keep; each makes the rows of a machine once, however many cells
-//! there are, and looks at no further pair of states once some number of a span does what is asked. `AllTables` answers
+//! The layer above may rely on this: `refutes` and `cuts` answer exactly whether a comparison with a bound holds of no
+//! number of a span, or none counts for a bar. The calls on a machine and a box answer this of the span at a cell,
+//! and name the first cell, the first drop and the value to keep; each makes the rows of a machine once, however many
+//! cells there are, and looks at no further pair of states once a number of a span does as asked. `AllTables` answers
 //! the same questions for the machines of all terms, of a box that was brought before, and keeps the rows of hulls for
 //! the next box, as far as the change between the two doesn't reach them: how they are made, kept and found again is
-//! the business of ts_bound. `bring` finds out by itself what has changed. At cells of which its user knows that they
-//! have no drop (`KeptCells`) nothing is asked, and no span of a value of which the user tells so then (`Spares`).
+//! the business of ts_bound. `bring` finds out by itself what has changed. Nothing is asked at cells of which its user
+//! knows that they have no drop (`KeptCells`), nor of values of which the user says so when asked (`Spares`).
 //! The definitions state the rule of each line of a certificate, when a certificate is accepted, its first failing line
 //! and what its claim means; by the laws an accepted certificate means what it claims, whoever wrote it, wherever spans
 //! hold the values of their terms.

@@ -11,8 +11,8 @@ use ts_meet::Asked;
 use ts_model::Op;
 use ts_sweep::packed::Ends;
 
-/// What is asked of the numbers of a span: whether one compares so with a bound; whether for each requirement of a term
-/// one meets it; whether one counts for a bar; or nothing but what the best number is for an objective.
+/// What is asked of the numbers of a span: whether one meets a comparison with a bound; whether for each requirement of
+/// a term one meets it; whether one counts for a bar; or nothing but what the best number is for an objective.
 #[derive(Clone, Copy)]
 pub(crate) enum Question<'a> {
     Compares(Op, Ext),

@@ -49,7 +49,7 @@ impl<'a> TermRequirements<'a> {
         Some(own)
     }
 
-    /// The only one, where there are no others.
+    /// The only requirement of the term, where there are no others.
     pub(crate) fn only(self) -> Option<&'a Require>
         ensures refuted { MatchOption result (Unit {0}) (λ r. (s : Span) →
             Refutes r.now.op r.now.bound s ↔ RefutesSome self.entry.all.now self.entry.term s) }
@@ -62,7 +62,7 @@ impl<'a> TermRequirements<'a> {
         Some(&self.all[self.first])
     }
 
-    /// The number of the first one that the span refutes.
+    /// The number of the first requirement of the term that the span refutes.
     pub(crate) fn first_refuted(self, span: Span) -> Option<u32>
         ensures { IsFirstRefuting self.entry.all.now self.entry.term span result }
     {
@@ -74,7 +74,7 @@ impl<'a> TermRequirements<'a> {
         None
     }
 
-    /// Ends of spans that refute none of them.
+    /// Ends of spans that refute none of these requirements.
     pub(crate) fn enough(self) -> Option<Ends>
         ensures { IfSome result (AreEnough (RefutesSome self.entry.all.now self.entry.term)) }
     {
@@ -87,7 +87,7 @@ impl<'a> TermRequirements<'a> {
 }
 
 impl<'a> TermRequirements<'a> {
-    /// Whether each of them is one of the others.
+    /// Whether each of these requirements is one of the others.
     pub(crate) fn are_among(self, others: &[Require]) -> bool
         ensures { IsTrue result → AreAmong self.entry.all.now self.entry.term others.now }
     {
