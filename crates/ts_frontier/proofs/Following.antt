@@ -8,7 +8,7 @@ use Rattle.ts_filter.specs.Steps.{made_by}
 use Rattle.ts_frontier.specs.Follow.{MakesBoxes, makes_some}
 use Rattle.ts_frontier.specs.Waiting.{Waiting, first, rest, after_split, after_remove}
 
--- the line is told, and its number in a form of its own
+-- the line is known, and its number in a form of its own
 pub split_cell : (l : TreeLine) (k : ℕ) (t : ℤ) (b : Box) → l ≡ Split k t → MakesBoxes l b → HasCell k b
 split_cell l k t b is may = (subst (λ l. MakesBoxes l b) is may).cell
 
@@ -38,7 +38,7 @@ pub remove_told : (l : TreeLine) (k : ℕ) (v v' : ℤ) (j : ℕ) (w w' : Waitin
 remove_told l k v v' j w w' is same done =
     ap (λ w. w.boxes) (done ∙ ap (λ z. after_remove k z w) same) ∙ ap (λ l. made_by l (first w.boxes) ++ rest w.boxes) (sym is)
 
--- and the next box is present
+-- after a split the next box is present
 pub split_ready : (l : TreeLine) (k : ℕ) (t t' : ℤ) (w w' : Waiting) → l ≡ Split k t → w' ≡ after_split k t' w → w'.ready ≡ makes_some l
 split_ready l k t t' w w' is done = ap (λ w. w.ready) done ∙ ap makes_some (sym is)
 

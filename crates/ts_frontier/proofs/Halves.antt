@@ -97,7 +97,7 @@ halving_form b k t h =
     let at : suc (k - 1) ≡ k = omega (arith, from) in
     wide_at b (k - 1) t (omega (arith, from, to)) h.before h.many h.middle ∙ ap (λ n. Wide n t) at
 
--- what the form tells of the box
+-- what the form says of the box
 
 abbrev FormFits : Box → Form → Type 0
 FormFits b (Alone x) = b ≡ box_of x

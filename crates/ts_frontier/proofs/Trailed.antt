@@ -177,7 +177,7 @@ split_boxes b b' true us w k t view ready h is =
     waiting : List (List ℤ) → List (List ℤ) → List (List (List ℤ)) → Waiting
     waiting p x l = record { ready = true; boxes = p ∷ high_side k t x ∷ l }
 
--- the same over the entries as they are stored, the newest one last
+-- the entries as they are stored, the newest one last, after a split
 newest : (us : List Upper) (u : Upper) → reverse (us ++ u ∷ []) ≡ u ∷ reverse us
 newest us u = reverse-append us (u ∷ [])
 

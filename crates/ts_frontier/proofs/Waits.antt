@@ -33,7 +33,7 @@ abbrev Few : ℕ → List Box → Type 0
 Few top [] = Unit {0}
 Few top (b ∷ w) = (length (b ∷ w) + total_of b ≤ top) × Few top w
 
--- and each lies inside the first box
+-- few boxes wait, and each lies inside the first box
 record Bounded (top : ℕ) (m : Box) (w : List Box) : Type 0 where
   parts : AllByRecursion (λ c. IsPart c m) w
   few : Few top w

@@ -40,7 +40,7 @@ impl Model for Frontier {
 }
 
 impl Frontier {
-    /// The present box of `boxed` waits alone, and is present. What stands before it on the trail is of no account.
+    /// The present box of `boxed` waits alone, and is present. What stands before it on the trail doesn't matter.
     pub fn new(alloc: Global, boxed: Boxed) -> Frontier
         ensures { result ≡ record { ready = true; boxes = boxed.present ∷ [] } }
     {
@@ -137,7 +137,7 @@ impl Frontier {
         self.ready = false;
     }
 
-    /// No box waits any more.
+    /// Removes all boxes that wait.
     pub fn clear(&mut self)
         ensures { self.new ≡ record { ready = false; boxes = [] } }
     {

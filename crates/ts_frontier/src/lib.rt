@@ -17,7 +17,7 @@
 //!
 //! However many lines are followed, few boxes wait: by the law `few_wait` at most one more than the values of all cells
 //! of the first box, less its cells. [`first_halving`] says where a box is split, as does [`halving_from`], where it is
-//! known of the first cells that they have one value; [`form_of`] tells that, or the one series of a box of one.
+//! known of the first cells that they have one value; [`form_of`] answers that, or the one series of a box of one.
 //!
 //! ```text
 //! let mut frontier = Frontier::new(alloc, cells);

@@ -17,11 +17,11 @@ use Rattle.ts_compile.specs.Compiled.{HaveBodies, machine_body}
 use Rattle.ts_compile.proofs.Tables.{body_automaton}
 use Rattle.ts_monitor.specs.Monitors.{AllStand, moved, moved_after}
 
--- the first k have moved, the others stand where they stood
+-- the first k automata have moved, the others stand where they stood
 abbrev pub moved_to : ℕ → List Body → List (Standing Ext) → ℤ → ℤ → List (Standing Ext)
 moved_to k bs ss x y = take k (moved bs ss x y) ++ drop k ss
 
--- the next one stands, and moves
+-- the next automaton stands, and moves
 pub next_stands : (bs : List Body) (ss : List (Standing Ext)) (x y : ℤ) (k : ℕ) (b : Body) (s : Standing Ext) → AllStand bs ss →
     slice_get bs k ≡ Some b → slice_get (moved_to k bs ss x y) k ≡ Some s → Stands b s
 next_stands [] ss x y k b s all at here = cc
@@ -52,14 +52,14 @@ standing_count [] (s ∷ ss) all = absurd all
 standing_count (b ∷ bs) [] all = absurd all
 standing_count (b ∷ bs) (s ∷ ss) all = ap suc (standing_count bs ss all.1)
 
--- in the end all have moved
+-- in the end all automata have moved
 pub all_moved : (bs : List Body) (ss : List (Standing Ext)) (x y : ℤ) → AllStand bs ss → moved_to (length bs) bs ss x y ≡ moved bs ss x y
 all_moved [] [] x y all = refl
 all_moved [] (s ∷ ss) x y all = absurd all
 all_moved (b ∷ bs) [] x y all = absurd all
 all_moved (b ∷ bs) (s ∷ ss) x y all = ap (◌∷◌ (step_of b s x y)) (all_moved bs ss x y all.1)
 
--- none is lost on the way
+-- no automaton is lost on the way
 pub moved_count : (bs : List Body) (ss : List (Standing Ext)) (x y : ℤ) (k : ℕ) → AllStand bs ss → length (moved_to k bs ss x y) ≡ length bs
 moved_count [] [] x y zero all = refl
 moved_count [] [] x y (suc k) all = refl
@@ -144,7 +144,7 @@ module _ (ms : List Machine) (old now : List At) (x y : ℤ) (k : ℕ) where
         ∙ ap (set (moved_to k (map forward_of ms) (map standing_of old) x y) k) step
         ∙ next_moved (map forward_of ms) (map standing_of old) x y k (forward_of m) (standing_of a) all (seen forward_of ms k m here) (found is)
 
--- at its end
+-- the run of each machine's automaton, at the end of the loop
 pub run_ended : (ms : List Machine) (old now : List At) (x y : ℤ) (k : ℕ) → AllStand (map forward_of ms) (map standing_of old) →
     InMidst ms old now x y k → k ≡ length ms → map standing_of now ≡ moved (map forward_of ms) (map standing_of old) x y
 run_ended ms old now x y k all is end =

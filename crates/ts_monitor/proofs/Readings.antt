@@ -82,7 +82,7 @@ as_passed z h = let fits : SFits w64 z = grind (arith, ints) in to_z-of_z w64 z 
 pub reading_passed : (z : ℤ) → IsCellValue z → to_z w64 (of_z w64 z) ≡ z
 reading_passed z h = let low = h.0 in let high = h.1 in let fits : SFits w64 z = grind (arith, ints) in to_z-of_z w64 z fits
 
--- what it answers of the readings that a monitor stands for
+-- what the automaton at a place answers of the readings that a monitor stands for
 pub value_told : (w : Watched) (k : ℕ) (b : Body) (s : Standing Ext) (v : Ext) → 1 ≤ w.count → w.count ≤ longest →
     slice_get (map machine_body w.terms) k ≡ Some b → slice_get w.standings k ≡ Some s → v ≡ finish_of b s w.count →
     (xs : List ℤ) → StandsFor w xs → slice_get (map (λ t. term_value t xs) w.terms) k ≡ Some v

@@ -43,7 +43,7 @@ moved [] ss x y = []
 moved (b ∷ bs) [] x y = []
 moved (b ∷ bs) (s ∷ ss) x y = step_of b s x y ∷ moved bs ss x y
 
--- each automaton after a reading, where so many were taken before it: at the first one none moves
+-- each automaton after a reading, with n readings before it: at the first one none moves
 abbrev pub moved_after : ℕ → List Body → List (Standing Ext) → ℤ → ℤ → List (Standing Ext)
 moved_after zero bs ss x y = ss
 moved_after (suc n) bs ss x y = moved bs ss x y

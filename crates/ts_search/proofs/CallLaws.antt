@@ -1,4 +1,4 @@
--- What the calls on a machine's spans tell is what the definitions test.
+-- What the calls on a machine's spans answer is what the definitions test.
 use Rattle.std.proofs.Common.{◌≡◌, ◌↔◌, ℕ, ◌-◌, ◌<◌, ◌≤◌, ℤ, ◌<ℤ◌, Bool, true, false, List, length, Option, Some, None, slice_get, refl, sym, ◌∙◌, ap, subst, inl, inr, arith}
 use Rattle.std.proofs.lemmas.Bool.{false_from_ne_true}
 use Rattle.std.proofs.lemmas.Int.{ints}
@@ -26,7 +26,7 @@ use Rattle.ts_search.specs.Drops.{least, next_drop}
 use Rattle.ts_search.proofs.Choice.{LeastFits, least_fits}
 use Rattle.ts_search.proofs.NextDrop.{next_drop_fits}
 
--- the least of so many numbers is one
+-- the least of n numbers is one of them
 
 pub least_is : (q : ℕ → Bool) (f j : ℕ) (o : Option ℕ) → LeastFits q f j o → o ≡ least q f j
 least_is q f j o h = go o h (least q f j) (least_fits q f j)
@@ -92,13 +92,13 @@ module _ (ms : List Automata) (term : ℕ) (a : Automata) (has : slice_get ms te
     test_from : (p : ℕ) (b : Box) → IsUsableOf a p b → Refutes r.op r.bound (term_span a p b) → is_refuted rs (spans_of ms) j p b ≡ true
     test_from p b u f = ((tests_tell (spans_of ms)).refuted rs j p b).1 (from_machine p b u f)
 
-    -- at a cell that may be used
+    -- whether a requirement is refuted at a cell that may be used
     pub refuted_is : (p : ℕ) (b : Box) → IsUsableOf a p b → (told : Bool) → IsTrue told ↔ Refutes r.op r.bound (term_span a p b) →
         told ≡ is_refuted rs (spans_of ms) j p b
     refuted_is p b u told h =
         same_test told (is_refuted rs (spans_of ms) j p b) (λ e. test_from p b u (h.0 e)) (λ e. h.1 (test_to p b e).1)
 
-    -- below the last cell
+    -- the first cell below the last at which a requirement is refuted
     pub first_refuted_is : (b : Box) (n : ℕ) → length b ≡ n → (found : Option ℕ) → IsFirstCell a (Refutes r.op r.bound) b found →
         found ≡ least (λ p. is_refuted rs (spans_of ms) j p b) (n - 1) 1
     first_refuted_is b n size found h =
@@ -121,7 +121,7 @@ module _ (ms : List Automata) (term : ℕ) (a : Automata) (has : slice_get ms te
       cuts = subst (λ z. Cuts goal bar z) (sym (of_machine.span p b)) f;
     })
 
-    -- at the last cell
+    -- whether the objective is cut at the last cell
     pub cut_is : (b : Box) (n : ℕ) → length b ≡ n → 1 ≤ n → (told : Bool) → IsTrue told ↔ Cuts goal bar (term_span a (length b) b) →
         told ≡ is_cut m (spans_of ms) goal n b bar
     cut_is b n size some told h =
@@ -129,7 +129,7 @@ module _ (ms : List Automata) (term : ℕ) (a : Automata) (has : slice_get ms te
         same_test told (is_cut m (spans_of ms) goal (length b) b bar) (λ e. cut_from (length b) b u (h.0 e)) (λ e. h.1 (cut_to (length b) b e).1)
         ∙ ap (λ z. is_cut m (spans_of ms) goal z b bar) size
 
-    -- below it
+    -- the first cell below the last at which the objective is cut
     pub first_cut_is : (b : Box) (n : ℕ) → length b ≡ n → (found : Option ℕ) → IsFirstCell a (Cuts goal bar) b found →
         found ≡ least (λ p. is_cut m (spans_of ms) goal p b bar) (n - 1) 1
     first_cut_is b n size found h =

@@ -57,7 +57,7 @@ is_series m x whole box within =
       cells = All-from_recursion IsCellValue x (values_within x m.cells within box);
     }
 
--- the value as the call tells it is that of the objective
+-- the value that the call answers is that of the objective
 pub value_is : (m : ModelParts) (x : List ℤ) (term : ℕ) (v : Ext) → m.objective ≡ Some term → value_at m x term ≡ Some v → v ≡ value_of m x
 value_is m x term v objective told =
     sym (ap (λ o. unwrap_or (value_of_term m x o) NegInf) objective ∙ ap (λ o. unwrap_or o NegInf) told)
@@ -82,7 +82,7 @@ open_more first ls more n pushed is =
 opened : (ls : List TreeLine) (w : List Box) (n : ℕ) (all : List TreeLine) → n ≡ length w → all ≡ ls ++ replicate n Unsearched → all ≡ ls ++ left_open w
 opened ls w n all size is = is ∙ ap (λ k. ls ++ replicate k Unsearched) size ∙ ap (λ rest. ls ++ rest) (sym (open_lines w))
 
--- the one or the other
+-- the found series, or the warm one where none was found
 pub or_warm : (f w : Option FoundSeries) → find_of (option_or f w) ≡ found_or_warm (find_of f) (find_of w)
 or_warm (Some f) w = refl
 or_warm None w = refl
@@ -113,7 +113,7 @@ module _ (c : Contest) (ls : List TreeLine) (w : List Box) (found : Option Find)
       (λ i. cert (is_claim i) (same_series i) (opened ls w n tree size is_tree i))
       ∙ ap (λ h. under_head h (ls ++ left_open w)) (sym (head_done w (sym size ∙ none)))
 
-  -- some still wait
+  -- some boxes still wait
   pub budget_certificate : (claim : Claim) (series : List (List ℤ)) (tree : List TreeLine) → (n ≡ 0 → ⊥) → claim ≡ budget_claim (found_or_warm found c.warm) →
       series ≡ series_of (found_or_warm found c.warm) → tree ≡ ls ++ replicate n Unsearched →
       let given : Cert = record { aim = BestOf c.goal; claim = claim; series = series; tree = tree } in given ≡ solve_certificate c now
@@ -121,7 +121,7 @@ module _ (c : Contest) (ls : List TreeLine) (w : List Box) (found : Option Find)
       (λ i. cert (is_claim i) (same_series i) (opened ls w n tree size is_tree i))
       ∙ ap (λ h. under_head h (ls ++ left_open w)) (sym (head_left w (λ e. some (size ∙ e))))
 
--- and it is solved
+-- the certificate is solved
 pub solved : (m : ModelParts) (s : Spans) (goal : Goal) (n : ℕ) (c : Contest) (state : State) (cert : Cert) → AreRight m s → IsSome m.objective →
     c ≡ contest_for m s goal → state ≡ turns c n (start c) → cert ≡ solve_certificate c state → IsSolution m s goal n cert
 solved m s goal n c state cert right some is turned made =

@@ -30,7 +30,7 @@ module _ (c : Contest) (f : Option Find) (b : Box) where
     pub found_new : r ≡ true → (p : ℕ) → let new : Find = record { series = x; value = v } in Some new ≡ found_after c f (form b) (Worse p)
     found_new e p = ap (λ z. Some (record { series = x; value = z })) value ∙ counted true e p
 
-    -- another isn't
+    -- a series that doesn't reach more isn't found
     pub found_old : r ≡ false → (p : ℕ) → f ≡ found_after c f (form b) (Worse p)
     found_old e p = counted false e p
 
@@ -38,7 +38,7 @@ module _ (c : Contest) (f : Option Find) (b : Box) where
 pub left_within : (cells b : Box) (x : List ℤ) → IsPart b cells → form b ≡ Alone x → InBox x cells
 left_within cells b x i alone = in_box_inside b cells x i.inside (alone_within cells b x i alone)
 
--- what the form that the code has tells of the box
+-- what the form that the code has says of the box
 
 pub wide_told : (o : FoundForm) (g : Form) → form_seen o ≡ g → ((x : Vec ℤ Global) → o ≡ FoundAlone x → ⊥) → (k : ℕ) × (t : ℤ) × (g ≡ Wide k t)
 wide_told (FoundAlone x) g told wide = absurd (wide x refl)

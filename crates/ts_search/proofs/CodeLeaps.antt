@@ -147,7 +147,7 @@ module _ (left rest : List ℤ) (v : ℤ) (e : left ≡ v ∷ rest) where
           absurd
           (free (subst (λ z. t <ℤ z) (sym same) above) j (subst (λ z. IsRefuted s.model.requirements s.spans j k (only k z b)) (sym same) r))
 
--- as the code compares them
+-- a value above t, as the code compares them
 pub not_above : {P : Type 0} (t v told seen : ℤ) → told ≡ t → seen ≡ v → int_lt told seen ≡ false → t <ℤ v → P
 not_above t v told seen e f under above =
     absurd (clash (int_lt t v) (lt_true t v above) (subst (λ z. int_lt z v ≡ false) e (subst (λ z. int_lt told z ≡ false) f under)))
@@ -203,7 +203,7 @@ leap_done q x n b e part tried is l k t line split =
     splits : Box → Type 0
     splits z = SplitsIt (line_of q z) (form z)
 
--- of what the code seeks
+-- the search that the code seeks in
 pub search_is : (s : Seeking) → search_in (sought_of s) ≡ search_of (problem_of s)
 search_is (SeeksBest c found) = refl
 search_is (SeeksFirst q) = refl

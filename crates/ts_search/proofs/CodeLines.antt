@@ -79,7 +79,7 @@ module _ (c : Search) (b : Box) (o : Option Removal) (is : o ≡ next_drop c.mod
       ap (Split k) same ∙ ap (λ z. unwrap_or (option_map removal_line z) (Split k t)) (sym none ∙ is)
 
 module _ (c : Contest) (found : Option Find) (b : Box) (k : ℕ) (t : ℤ) where
-  -- of a box of several series that is neither refuted nor cut at the last cell
+  -- the line of a box of several series that is neither refuted nor cut at the last cell
   pub inner_cut : (o : Option ℕ) (p : ℕ) → first_no c.search b (requirements c.search) 1 ≡ None →
       o ≡ least (λ p. cut_by c (bar_of found c.warm) p b) (inner c.search) 1 → o ≡ Some p → Worse p ≡ wide_line (TheBest c found) b k t
   inner_cut o p none is some =
@@ -113,7 +113,7 @@ module _ (c : Contest) (found : Option Find) (b : Box) where
       ∙ ap (λ z. cond z (Worse (last c.search)) (wide_line (TheBest c found) b k t)) (sym cut ∙ is)
       ∙ line_free (TheBest c found) b (Wide k t) e (halving_form b k t h)
 
--- of a listing
+-- the line of a box in a listing
 module _ (c : Search) (b : Box) where
   pub listed_alone : refuted_last c b ≡ None → IsSingle b → Yes ≡ line_of (TheFirst c) b
   listed_alone e single = let f = single_form b single in line_free (TheFirst c) b (Alone f.0) e f.1

@@ -33,7 +33,7 @@ choice_makes q b Unsearched i h = elim h [ ]
 pub line_makes : (q : Sought) (b : Box) → IsPart b (search_in q).model.cells → MakesBoxes (line_of q b) b
 line_makes q b i = choice_makes q b (line_of q b) i (line_choice q b)
 
--- as the code has the waiting boxes: after `advance`, and the first of them present
+-- the line of the first box that waits makes boxes, as the code has them after `advance`
 pub first_makes : (q : Sought) (old bs : List Box) (b : Box) (l : TreeLine) → AreParts (search_in q).model.cells old → bs ≡ old →
     bs ≡ b ∷ rest bs → l ≡ line_of q b → MakesBoxes l (first bs)
 first_makes q old bs b l parts same front is =
@@ -51,7 +51,7 @@ parts_after cells (Worse p) b w f e = e.1
 parts_after cells Yes b w f e = e.1
 parts_after cells Unsearched b w f e = e.1
 
--- a turn keeps that
+-- after a turn the boxes that wait are still inside the model's
 pub turn_parts : (c : Contest) (s : State) → AreParts c.search.model.cells s.pending → AreParts c.search.model.cells (turn c s).pending
 turn_parts c s h = go s.pending refl h
   where
@@ -105,7 +105,7 @@ grow_first c ls w b none alone same =
 pub first_parts : (cells : Box) (w : List Box) → IsBox cells → w ≡ cells ∷ [] → AreParts cells w
 first_parts cells w box e = subst (AreParts cells) (sym e) (part_self cells box, tt)
 
--- the same of a listing
+-- the loop of a listing
 
 module _ (c : Search) (m : ℕ) where
   pub list_more : (n i : ℕ) (s s' z : ListState) → i < n → s' ≡ list_turn c m s → list_turns c m (n - i) s ≡ z → list_turns c m (n - (i + 1)) s' ≡ z
@@ -162,6 +162,6 @@ pub list_room : (c : Search) (count : ℕ) (old new : ListState) → new ≡ lis
 list_room c count old new e room =
     e ∙ ap (λ t. cond t (list_turn_on c old old.pending) old) (sym (lt-ltb (length old.listed) count room))
 
--- of the list that the code has
+-- room for one more series in the list that the code has
 pub room_for : (m : ℕ) (xs : List (Vec ℤ Global)) → length xs < m → length (map (λ x. x.items) xs) < m
 room_for m xs room = let same = length-map xs (λ (v : Vec ℤ Global). v.items) in omega (arith, room, same)

@@ -47,7 +47,7 @@ module _ (m : ModelParts) (s : Spans) where
   pub is_next : (b : Box) (r : Removal) → next_drop m s b ≡ Some r → IsDrop m.requirements s r.cell r.value r.require b
   is_next b r e = subst (λ o. DropFits m s b o) e (drop_fits m s b)
 
-  -- where none is possible, none is made
+  -- where no drop is possible, none is made
   drops_stop : (n : ℕ) (b : Box) → next_drop m s b ≡ None → drops m s n b ≡ b
   drops_stop zero b e = refl
   drops_stop (suc n) b e = ap (λ o. unwrap_or (option_map (λ r. drops m s n (without r.cell r.value b)) o) b) e
@@ -103,7 +103,7 @@ cell_there c b k end i from below is = let long = inside_length b c.model.cells 
 pub within_cells : (k end n : ℕ) → k < end + 1 → end ≡ n → k < n + 1
 within_cells k end n below is = omega (arith, below, is)
 
--- or a requirement is refuted: no series that is left meets
+-- a requirement is refuted: no series that is left meets
 
 module _ (m : ModelParts) (s : Spans) (goal : Goal) (sound : IsSound m s) where
   refuted_end : (j p : ℕ) (b : Box) → IsPart b m.cells → IsRefuted m.requirements s j p b → (n k : ℕ) → 1 ≤ k → k + n ≤ length m.cells + 1 →
@@ -152,14 +152,14 @@ kept_alone v (w ∷ d) r h = ⊎_elim here (λ a. later a (kept_alone v d r.1 a)
         ∙ ap (λ t. cond t (w ∷ above v (values_up_to v d)) (above v (values_up_to v d))) (before_gone v w less)
         ∙ rest
 
--- what both changes ask
+-- what both changes of a cell to one value ask
 pub low_stays : (v : ℤ) (d : List ℤ) → Contains d v → values_up_to v d ≡ [] → ⊥
 low_stays v d there none = some_stay (values_up_to v d) v ((contains_up_to v d v).1 (there, (omega (arith, ints)))) none
 
 pub high_stays : (v : ℤ) (d low : List ℤ) → IsRising d → Contains d v → low ≡ values_up_to v d → values_above (v -ℤ pos 1) low ≡ [] → ⊥
 high_stays v d low r there is none = absurd (let e : v ∷ [] ≡ [] = sym (kept_alone v d r there) ∙ ap (values_above (v -ℤ pos 1)) (sym is) ∙ none in cc)
 
--- as the machine has these two numbers
+-- a number beside a value of a cell fits the machine's 64 bits
 larger_fits : (z : ℤ) → neg_ℤ (pos 1000001) ≤ℤ z → z ≤ℤ pos 1000001 → SFits w64 z
 larger_fits (pos n) from to = record { sfits = omega (arith, ints, from, to) }
 larger_fits (negsuc n) from to = record { sfits = omega (arith, ints, from, to) }
@@ -202,7 +202,7 @@ kept_box k v b low high box cell there is_low is_high =
 -- the loop over the cells
 
 module _ (m : ModelParts) (s : Spans) (goal : Goal) where
-  -- so many cells are still to be kept, from k on
+  -- n cells are still to be kept, from k on
   abbrev pub EndsAs : ℕ → ℕ → Box → Option Find → Type 0
   EndsAs n k b z = dive_end m (form (keep_from m s goal n k b)) ≡ z
 
@@ -235,7 +235,7 @@ module _ (m : ModelParts) (s : Spans) (goal : Goal) where
 
 -- the series that is left
 
--- the judgement's lists tell whether it meets
+-- the judgement's lists decide whether it meets
 pub met_is : (m : ModelParts) (x y : List ℤ) (inside holding : List Bool) (t : Bool) → y ≡ x → t ≡ all_hold inside holding → inside ≡ insides m.cells y →
     holding ≡ holdings (values_on m y) m.requirements → t ≡ is_met m x
 met_is m x y inside holding t same told inside_is holding_is = told ∙ (λ i. all_hold (inside_is i) (holding_is i)) ∙ ap (is_met m) same

@@ -43,7 +43,7 @@ module _ (m : ModelParts) (s : Spans) where
   dropped_part all b h =
       drops_keep (λ d. IsPart d all) (λ r d a k. drop_part r.cell r.value r.require d all k a) (total_of b) b h
 
-  -- so many drops that none is left
+  -- after as many drops as a box has values, none is left
   none_left : (all b : Box) → IsPart b all → total_of b ≤ length b → (o : Option Removal) → DropFits m s b o → o ≡ None
   none_left all b i l None d = refl
   none_left all b i l (Some r) d =

@@ -81,7 +81,7 @@ pub known_value : (rs : List Require) (s : Spans) (b : Box) (w : Witnesses) → 
 known_value rs s b w h k v cell has =
     let from = cell.0 in let to = cell.1 in value_fits (values_at k b) v (domain_at b (k - 1) h.part.box (omega (arith, from, to))) has
 
--- the requirements before a place drop no value of these
+-- the requirements before a place drop none of the values
 
 abbrev pub LetBelow : List Require → Box → Witnesses → (term k : ℕ) → (v to : ℤ) → ℕ → Type 0
 LetBelow rs b w term k v to n =

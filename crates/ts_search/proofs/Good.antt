@@ -31,7 +31,7 @@ use Rattle.ts_search.proofs.Known.{never_itself, apart, Known, KnownBest, more_c
 use Rattle.ts_search.proofs.Parts.{AreParts, InOrder, in_made, in_parts, ordered_split, single, alone_within, wide_split, wide_order}
 use Rattle.ts_search.proofs.Walk.{IsChecked, AllChecked, all_checked_snoc, steps_under, tally_snoc}
 
--- what is said of the found one
+-- the found series, if there is one, isn't worse than the value
 abbrev pub AtLeast : Contest → Option Find → Ext → Type 0
 AtLeast c None v = Unit {0}
 AtLeast c (Some w) v = is_better c.goal w.value v ≡ false
@@ -53,7 +53,7 @@ Settled c (Some f) warm y =
 Settled c None (Some w) y = is_better c.goal w.value (value_of c.search.model y) ≡ true
 Settled c None None y = ⊥
 
--- the best told series, where it is as good as the warm value
+-- the best reported series, where it is as good as the warm value
 abbrev pub kept : Contest → Option Find → Option Find → Option Find
 kept c None warm = None
 kept c (Some f) None = Some f
@@ -140,7 +140,7 @@ module _ (c : Contest) where
   abbrev IsBelowClaim : Option Find → ℕ → Box → Type 0
   IsBelowClaim best p b = MatchOption (claimed_value (budget_claim best)) ⊥ (λ v. IsCut c.search.model c.search.spans c.goal p b (Better v))
 
-  -- it stays where the claim gets better
+  -- a `worse` line keeps its rule where the claim gets better
   worse_more : (best : Option Find) (v : Ext) (p : ℕ) (b : Box) → AtLeast c best v → IsBelowClaim best p b →
       IsCut c.search.model c.search.spans c.goal p b (Better v)
   worse_more None v p b h k = absurd k

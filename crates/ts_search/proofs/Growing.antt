@@ -1,5 +1,5 @@
--- What a span shows of a requirement on a box, the spans of the boxes inside it show too. The mark `zero` makes 0 of an
--- infinite end, so under it this is told of spans above a bound that is at least 0.
+-- What a span shows of a requirement on a box, the spans of the boxes inside it show too. The mark `zero` makes 0 of an infinite end, so under it this holds of
+-- spans above a bound that is at least 0.
 use Rattle.std.proofs.Common.{◌≡◌, ℕ, ℤ, pos, ◌≤ℤ◌, Bool, true, false, cond, List, refl, sym, subst, arith}
 use Rattle.std.proofs.lemmas.Int.{ints}
 use Rattle.std.specs.Prelude.{IfSome, IsTrue}

@@ -45,7 +45,7 @@ module _ (goal : Goal) (f : ℤ → Ext) where
       go true e = inl (ap (λ z. is_better goal z (f w)) h.0 ∙ e)
       go false e = inr (h.0 ∙ neither_better goal (f v) (f w) e n, most_below x v w h.1 l)
 
-  -- and to one that is worse
+  -- what is preferred to a value is preferred to a worse one
   worse_too : (x v w : ℤ) → is_better goal (f w) (f v) ≡ true → IsPreferred goal f x w → IsPreferred goal f x v
   worse_too x v w b (inl a) = inl (better_trans goal (f x) (f w) (f v) a b)
   worse_too x v w b (inr h) = inl (ap (λ z. is_better goal z (f v)) h.0 ∙ b)

@@ -37,7 +37,7 @@ inside_trans (d ∷ b) [] n h g = absurd h
 inside_trans (d ∷ b) (e ∷ m) [] h g = absurd g
 inside_trans (d ∷ b) (e ∷ m) (f ∷ n) h g = ((λ v c. g.0 v (h.0 v c)), inside_trans b m n h.1 g.1)
 
--- with the same set at one place of both
+-- a box stays inside another one where both get the same set at one place
 inside_both : (i : ℕ) (d : List ℤ) (b m : Box) → IsInside b m → IsInside (set b i d) (set m i d)
 inside_both i d [] [] h = tt
 inside_both i d [] (e ∷ m) h = absurd h
@@ -237,7 +237,7 @@ module _ (q : Sought) (x : ExcludesInside q) (e : Box) (free : IsFreeOf q e) whe
       (k : ℕ) (v : ℤ) (j : ℕ) → HasCell k b → Contains (values_at k b) v → (Contains (values_at k e) v → ⊥) →
       IsRefuted c.model.requirements c.spans j k (only k v b) → ⊥
 
-  -- then the larger one is free too
+  -- the larger box is free where the values that the smaller one has lost are
   free_outside : (b : Box) → IsInside e b → LostAreFree b → IsFreeOf q b
   free_outside b inside lost = record {
     refuted = λ j p r. free.refuted j p (refutes_inside q x j p b e inside r);

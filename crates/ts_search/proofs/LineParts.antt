@@ -11,7 +11,7 @@ use Rattle.ts_search.specs.LineOf.{Search, requirements, inner, is_refuted_at, n
 use Rattle.ts_search.proofs.Choice.{LeastFits, least_fits}
 use Rattle.ts_search.proofs.Known.{to_refuted, from_refuted}
 
--- of the requirements from k on
+-- the line names the first requirement from k on that is refuted below the last cell, and its first cell
 record Leads (c : Search) (b : Box) (k : ℕ) (l : TreeLine) : Type 0 where
   requirement : ℕ
   cell : ℕ

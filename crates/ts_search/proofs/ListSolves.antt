@@ -136,7 +136,7 @@ module _ (c : Search) (count n : ℕ) (ls : List TreeLine) (w : List Box) (xs : 
   checked : checked_count (ls ++ left_open w) ≡ length ls
   checked = checked_open ls w g.all_checked
 
-  -- with a claim that fits, and lines that are a tree
+  -- what a certificate has, with a claim that fits and lines that are a tree
   has_list : (claim : Claim) → ClaimFits (ListOf count) claim → length xs ≡ series_count claim →
       ((ys : List (List ℤ)) (x : List ℤ) → ComesAfter ys x → IsAsClaimed c.model claim ys x) →
       Steps c.model c.spans (head count claim xs) (c.model.cells ∷ []) 0 (ls ++ left_open w) [] (length xs) →

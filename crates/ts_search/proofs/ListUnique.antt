@@ -205,7 +205,7 @@ module _ (c : Search) (count : ℕ) where
         (checked_or d))
         (checked_or l)
 
--- what the yes lines tell
+-- what the yes lines report
 
 module _ (m : ModelParts) (s : Spans) (h g : Head) where
   same_count : (ls : List TreeLine) (y : ℕ) (w v v' : List Box) (z z' : ℕ) → Steps m s h w y ls v z → Steps m s g w y ls v' z' → z ≡ z'

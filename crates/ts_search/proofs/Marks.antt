@@ -53,7 +53,7 @@ module _ (q : Problem) (posed : IsPosed q) (w : Witnesses) (b : Box) (part : IsP
       clash (is_refuted_at (search_of q) j p b) (((tests_tell (search_of q).spans).refuted q.model.now.requirements.items j p b).1 refuted)
       (shown_alive q posed w b part shown j from (omega (arith, from, below)) (is_shown w j) refl (met j r is on) p)
 
-  -- a requirement on it has a witness
+  -- a requirement on a term has a witness
 
   shown_there : (j : ℕ) (o : Option Shown) → slice_get w.each.items (j - 1) ≡ o → unwrap_or (option_map (λ (s : Shown). s.met) o) false ≡ true →
       (s : Shown) × (slice_get w.each.items (j - 1) ≡ Some s)
@@ -68,7 +68,7 @@ module _ (q : Problem) (posed : IsPosed q) (w : Witnesses) (b : Box) (part : IsP
       (met (suc i) r (omega arith, ap (slice_get q.model.now.requirements.items) at ∙ is) on) in
       (s.0, ap (slice_get w.each.items) (sym at) ∙ s.1)
 
-  -- such a witness, and what it is asked of a cell
+  -- the witness of a requirement on a term, and what it is asked of a cell
 
   module _ (i : ℕ) (s : Shown) (r : Require) (there : slice_get w.each.items i ≡ Some s) (require : slice_get q.model.now.requirements.items i ≡ Some r)
       (at : Looked) (on : r.term ≡ at.term) (spare : CanSpare q at) (cell : HasCell at.cell b) where
@@ -137,7 +137,7 @@ module _ (q : Problem) (posed : IsPosed q) (w : Witnesses) (b : Box) (part : IsP
         (asked q posed w b part shown (i + 1) s r (omega arith) (ap (slice_get w.each.items) j ∙ there)
         (ap (slice_get q.model.now.requirements.items) j ∙ require)) at.cell cell is_looked_there place_is drop.there)
 
-    -- it is as before but for what it knows
+    -- the witness is as before but for what it knows
 
     module _ (new : Shown) (w' : Witnesses) (change : w'.each.items ≡ set w.each.items i new) (marks : w'.kept ≡ w.kept) (ends : w'.ends ≡ w.ends)
         (machine : new.machine ≡ s.machine) (cells : new.spared.cells ≡ s.spared.cells) (is_held : IsHeld r new)
@@ -208,7 +208,7 @@ spared_next q b at limit less n under h one i r below is on v up drop =
     (λ apart. h i r (below_split i n below apart) is on v (omega (arith, ints, under, up)) drop)
     (same_or_other i n)
 
--- at the end none does
+-- in the end no requirement on the term drops a value of the cell up to the limit
 pub all_spared : (q : Problem) (b : Box) (at : Looked) (limit : ℤ) (n : ℕ) → SparedBelow q b at limit n → length q.model.now.requirements.items ≤ n →
     IsSpared q.model.now.requirements.items (search_of q).spans b at.term at.cell limit
 all_spared q b at limit n h few v j r c up is on drop =

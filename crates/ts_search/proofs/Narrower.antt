@@ -98,11 +98,11 @@ refuted_inside a are op bound Cells is s b inner i p f = absurd s
 abbrev pub Shows : List Automata → Require → Type 0
 Shows machines r = (a : Automata) → slice_get machines r.term ≡ Some a → ShowsInside a.forward.mark r.op r.bound
 
--- so do those of the first n
+-- the machines of the terms of the first n requirements show them
 abbrev pub ShowUpTo : List Automata → List Require → ℕ → Type 0
 ShowUpTo machines rs n = (i : ℕ) (r : Require) → i < n → slice_get rs i ≡ Some r → Shows machines r
 
--- where the first ones are all of them, each shows it
+-- where the first n requirements are all, the machine of each one's term shows it
 pub all_show : (m : ModelParts) (n : ℕ) → length m.requirements ≤ n → ShowUpTo (automata_in m) m.requirements n → AllShowInside m
 all_show m n all shows i r a is has = let within = slice_get_within m.requirements i r is in shows i r (omega (arith, within, all)) is a has
 
@@ -147,7 +147,7 @@ machine_at q posed machines are term is m e =
     ap (λ l. slice_get l term) (sym are) ∙ slice_get-map automata_of machines term
     ∙ ap (option_map automata_of) (slice_get-get_or machines term m (omega (arith, long, same)) ∙ ap Some (sym e))
 
--- one requirement more is tried: it fails, or so many show it and one more
+-- one requirement more is tried: it fails, or one more shows it
 
 module _ (q : Problem) (posed : IsPosed q) (machines : List Machine) (are : map automata_of machines ≡ automata_in (model_parts q.model.now))
     (i : ℕ) (r : Require) (there : slice_get q.model.now.requirements.items i ≡ Some r) (m : Machine) (is : m ≡ get_or machines r.term m)

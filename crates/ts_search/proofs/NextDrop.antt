@@ -114,7 +114,7 @@ module _ (m : ModelParts) (s : Spans) (b : Box) where
           let f = first_of k u r (q ∙ ap (λ o. or_later o (drop_at m s b k values)) (sym q) ∙ e) in
           inl (subst (λ z. z <ℤ v) (sym f.value) (above later))
 
-  -- it doesn't come after the drop of value v of cell i by requirement j
+  -- a removal doesn't come after the drop of value v of cell i by requirement j
   abbrev IsBy : Removal → ℕ → ℤ → ℕ → Type 0
   IsBy r i v j = IsNoLater r (record { cell = i; value = v; require = j })
 

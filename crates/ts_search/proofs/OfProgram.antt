@@ -15,7 +15,7 @@ use Rattle.ts_search.specs.RightSpans.{AreRight}
 use Rattle.ts_search.specs.Posed.{IsPosed}
 use Rattle.ts_search.specs.declared.problem.Problem.{Problem}
 
--- all that is asked of them
+-- the spans are all that is asked of them
 pub are_right : (m : ModelParts) → IsWhole m → IsBox m.cells → AreRight m (spans_in m)
 are_right m whole box = record { whole = whole; box = box; holds = spans_hold_values m whole; single = spans_tell_singles m whole box }
 

@@ -15,7 +15,7 @@ use Rattle.ts_search.specs.LineOf.{Contest, Search, Sought, TheBest, TheFirst, l
 use Rattle.ts_search.specs.Turns.{found_after}
 use Rattle.ts_search.specs.declared.pace.Pace.{Pace}
 
--- of no line
+-- no line to come is known
 
 pub none_ahead : (q : Sought) (n : ℕ) (w : List Box) → n ≡ 0 → AreAhead q n w
 none_ahead q n w e = subst (λ z. AreAhead q z w) (sym e) (go w)
@@ -24,7 +24,7 @@ none_ahead q n w e = subst (λ z. AreAhead q z w) (sym e) (go w)
     go [] = tt
     go (b ∷ w) = tt
 
--- of the first box that waits
+-- what is known of the line of the first box that waits
 
 pub first_ahead : (q : Sought) (n : ℕ) (old bs : List Box) (b : Box) → AreAhead q n old → bs ≡ old → bs ≡ b ∷ rest bs → AreSplits q n b
 first_ahead q n old bs b h same front = subst (AreAhead q n) (sym same ∙ front) h
@@ -34,7 +34,7 @@ pub known_line : (q : Sought) (n : ℕ) (b : Box) (k : ℕ) (t told : ℤ) → (
 known_line q zero b k t told some h same splits = absurd (some refl)
 known_line q (suc n) b k t told some h same splits = ap (Split k) same ∙ sym (subst (SplitsIt (line_of q b)) (halving_form b k t h) splits.0)
 
--- after one more line
+-- what is known of the lines to come after one more line
 
 go_on : (q : Sought) (n m : ℕ) (b : Box) (w : List Box) (l : TreeLine) (P : TreeLine → ℕ → List Box → Type 0) →
     ((l : TreeLine) (w : List Box) → P l 0 w) →
@@ -63,7 +63,7 @@ found_on c found n m b w l h e is =
     go_on (TheBest c found) n m b w l (λ l m w. AreAhead (TheBest c (found_after c found (form b) l)) m w)
     (λ l w. none_ahead (TheBest c (found_after c found (form b) l)) 0 w refl) (λ k t m w a. a) h e is
 
--- of the lists that the code has
+-- what is known after one more line, of the lists that the code has
 module _ (b here : Box) (w after : List Box) (l : TreeLine) (front : w ≡ b ∷ rest w) (again : w ≡ here ∷ rest w)
     (boxes : after ≡ made_by l (first w) ++ rest w) where
   waiting : after ≡ made_by l b ++ rest w
@@ -88,6 +88,6 @@ module _ (b here : Box) (w after : List Box) (l : TreeLine) (front : w ≡ b ∷
         (found_on c found mid.ahead new.ahead b (rest w) l splits less is));
   }
 
--- at the start
+-- what is known of the lines to come at the start
 pub paced_first : (q : Sought) (p : Pace) (w : List Box) (leaps : Bool) → p.leaps ≡ leaps → p.ahead ≡ 0 → (IsTrue leaps → ExcludesInside q) → IsPaced q p w
 paced_first q p w leaps same none inside = record { inside = λ t. inside (sym same ∙ t); ahead = none_ahead q p.ahead w none }

@@ -1,4 +1,4 @@
--- What the calls tell of a problem that may be asked.
+-- What the calls answer of a problem that may be asked.
 use Rattle.std.proofs.Common.{◌≡◌, ◌↔◌, ℕ, ◌-◌, ◌<◌, ◌≤◌, ℤ, Bool, false, List, [], ◌∷◌, length, get_or, Option, Some, None, slice_get, refl, sym, ◌∙◌, ap, subst, arith}
 use Rattle.std.proofs.lemmas.List.{length-map}
 use Rattle.std.proofs.lemmas.Option.{none-some, slice_get-get_or, slice_get_within}
@@ -33,14 +33,14 @@ use Rattle.ts_search.proofs.CallLaws.{refuted_is, first_refuted_is, cut_is, firs
 use Rattle.ts_search.proofs.DiveLaws.{best_there}
 use Rattle.ts_search.proofs.KeptLaws.{kept_is}
 
--- what is told of a term's machine, of a term that there is
+-- what holds of the machine of a term that there is
 pub told_of : (tables : List Automata) (term : ℕ) (Is : Automata → Type 0) (Goal : Type 0) → term < length tables → OfTerm tables term Is →
     ((a : Automata) → slice_get tables term ≡ Some a → Is a → Goal) → Goal
 told_of [] term Is Goal lt h f = absurd (omega (arith, lt))
 told_of (d ∷ tables) term Is Goal lt h f =
     let a = get_or (d ∷ tables) term d in let there = slice_get-get_or (d ∷ tables) term d lt in f a there (h a there)
 
--- the same of the machine among those of the model
+-- what holds of the machine of a term, among those of the model
 pub told_in : (q : Problem) (tables : List Automata) (term : ℕ) (Is : Automata → Type 0) (Goal : Type 0) → AreTablesOf q tables → term < length tables →
     OfTerm tables term Is → ((a : Automata) → slice_get (automata_in (model_parts q.model.now)) term ≡ Some a → Is a → Goal) → Goal
 told_in q tables term Is Goal t lt h f = told_of tables term Is Goal lt h (λ a there is. f a (ap (λ l. slice_get l term) (sym t) ∙ there) is)
@@ -123,7 +123,7 @@ module _ (q : Problem) (posed : IsPosed q) where
     next_drop_told found h =
         drop_is (search_of q).model (search_of q).spans b i.box found h
 
-    -- without a requirement there is none
+    -- without a requirement there is no drop
     pub never_dropped : length q.model.now.requirements.items ≡ 0 → None ≡ next_drop (search_of q).model (search_of q).spans b
     never_dropped none =
         next_drop_told None (λ t d. let lt = slice_get_within q.model.now.requirements.items (t.require - 1) d.refuted.require d.refuted.is.1 in
@@ -156,7 +156,7 @@ module _ (q : GivenContest) (posed : IsPosed q.problem) (objective : HasObjectiv
           v d (best_there (end_with a q.goal k b) q.goal (values_at k b) d.some) h
           ∙ ap (kept_for (search_of q.problem).spans q.goal k b) (sym objective)
 
--- by a bar that there is, or none
+-- what is cut by a bar, if there is one
 module _ (c : Contest) (o : Option Bar) (b : Box) where
   pub cut_by_bar : (bar : Bar) (told : Bool) → o ≡ Some bar → told ≡ is_cut_at c (last c.search) b bar → told ≡ cut_by c o (last c.search) b
   cut_by_bar bar told some h = h ∙ ap (λ z. cut_by c z (last c.search) b) (sym some)

@@ -34,7 +34,7 @@ implies : (x y : Bool) → (x ≡ true → y ≡ true) → (x || y) ≡ y
 implies true y h = sym (h refl)
 implies false y h = refl
 
--- one bar says what the told value and the warm value say together
+-- one bar says what the reported value and the warm value say together
 pub one_bar : (c : Contest) (p : ℕ) (b : Box) (f warm : Option Find) →
     (below_told c f p b || below_warm c warm p b) ≡ cut_by c (bar_of (kept c f warm) warm) p b
 one_bar c p b None None = refl

@@ -120,6 +120,6 @@ module _ (c : Contest) (right : AreRight c.search.model c.search.spans) where
     warm = warm;
   }
 
--- of the search for the best, with the dive's series
+-- what is known of the search for the best, with the dive's series
 pub best_known : (m : ModelParts) (s : Spans) (goal : Goal) → AreRight m s → IsSome m.objective → KnownBest (contest_for m s goal)
 best_known m s goal right some = known_best (contest_for m s goal) right some (dive_fits m s goal right.box)

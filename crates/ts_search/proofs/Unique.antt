@@ -360,7 +360,7 @@ module _ (c : Contest) (k : Known c.search) (n : ℕ) where
       (λ none. subst (λ z. open_count z ≡ 0) trees (closed_of a s none)) (closed_of b t) in
       same_certificate a b (s.aim ∙ sym t.aim) claims.claim claims.series trees
 
--- with so large a budget no budget claim
+-- with so large a budget there is no budget claim
 
 pub all_lines : (ls : List TreeLine) → checked_count ls + open_count ls ≡ length ls
 all_lines [] = refl

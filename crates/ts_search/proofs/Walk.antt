@@ -1,4 +1,4 @@
--- Steps under another head, the best series told, and lines that stay open.
+-- Steps under another head, the best series reported, and lines that stay open.
 use Rattle.std.proofs.Common.{◌≡◌, ℕ, List, [], ◌∷◌, ◌++◌, length, Option, refl, ap, arith}
 use Rattle.ts_certificate.specs.declared.certificate.TreeLine.{TreeLine}
 use Rattle.ts_certificate.specs.declared.certificate.TreeLine.TheVariants.{Split, Remove, No, Worse, Yes, Unsearched}
@@ -43,7 +43,7 @@ module _ (m : ModelParts) (s : Spans) where
   open_steps h o [] y = (refl, refl)
   open_steps h o (b ∷ w) y = (o, open_steps h o w y)
 
--- the best told over one more line, and over open lines
+-- the best reported series over one more line, and over open lines
 
 module _ (c : Contest) where
   pub tally_snoc : (h : Head) (l : TreeLine) (b : Box) (u : List Box) (ls : List TreeLine) (f : Option Find) (y : ℕ) (w : List Box) (after : ℕ) →

@@ -110,7 +110,7 @@ each_after q w w' i new r Is change require h is k s t e f =
     (λ other. h k s t other.1 f)
     (get_set w.each.items i k new s (ap (λ z. slice_get z k) (sym change) ∙ e))
 
--- the first so many are in the box
+-- the series of the first n witnesses are in the box
 abbrev pub InsideUpTo : Problem → Witnesses → Box → ℕ → Type 0
 InsideUpTo q w b n =
     (i : ℕ) (s : Shown) (r : Require) → i < n → slice_get w.each.items i ≡ Some s → slice_get q.model.now.requirements.items i ≡ Some r →
@@ -225,7 +225,7 @@ domain_there w b k h from to =
     let at : place_in w k - 1 ≡ k - first_looked w = (let place = place_inside w k looked in omega (arith, place, from, first)) in
     ap (λ i. get_or (looked_at w b) i []) (sym at) ∙ looked_get b k w [] h looked
 
--- as they are made
+-- witnesses as they are made
 
 pub record IsMade (q : Problem) (r : Require) (s : Shown) : Type 0 where
   pub machine : slice_get (automata_in (model_parts q.model.now)) r.term ≡ Some (automata_of s.machine.now)
@@ -313,7 +313,7 @@ module _ (w : Option Range) (b : Box) (h : LooksInside (length b) w) (first last
 pub seats_length : (old new values : List ℤ) (i : ℕ) → Seats old i values new → length new ≡ length old
 seats_length old new values i s = ap length s.2 ∙ length-set old i s.0
 
--- at the end all are in the box
+-- in the end all values of the series are in the box
 pub brought : (w : Option Range) (b : Box) (x : List ℤ) (k last : ℕ) → LooksInside (length b) w → last ≡ last_looked w (length b) → last + 1 ≤ k →
     length x ≡ length (looked_at w b) → IsInUpTo x (looked_at w b) (k - first_looked w) → InBox x (looked_at w b)
 brought w b x k last h is_last end count inside =

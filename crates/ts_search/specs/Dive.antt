@@ -52,7 +52,7 @@ kept_value m s goal k b = kept_for s goal k b m.objective
 abbrev pub keep_one : ModelParts → Spans → Goal → ℕ → Box → Box
 keep_one m s goal k b = after_drops m s (only k (kept_value m s goal k b) b)
 
--- so many cells from k on keep one value each
+-- n cells from k on keep one value each
 abbrev pub keep_from : ModelParts → Spans → Goal → ℕ → ℕ → Box → Box
 keep_from m s goal zero k b = b
 keep_from m s goal (suc n) k b = keep_from m s goal n (suc k) (keep_one m s goal k b)

@@ -7,7 +7,7 @@ use Rattle.ts_filter.specs.Boxes.{Box, values_at, without}
 use Rattle.ts_filter.specs.RefutedWorseDrop.{Spans}
 use Rattle.ts_filter.specs.Tests.{is_drop}
 
--- the least of so many numbers from j on with the test
+-- the least of n numbers from j on that passes the test
 abbrev pub least : (ℕ → Bool) → ℕ → ℕ → Option ℕ
 least test zero j = None
 least test (suc n) j = cond (test j) (Some j) (least test n (suc j))
@@ -27,7 +27,7 @@ abbrev pub drop_at : ModelParts → Spans → Box → ℕ → List ℤ → Optio
 drop_at m s b k [] = None
 drop_at m s b k (v ∷ values) = or_later (drop_of m s b k v) (drop_at m s b k values)
 
--- the possible drop in the least of so many cells from k on
+-- the possible drop in the least of n cells from k on
 abbrev pub drop_from : ModelParts → Spans → Box → ℕ → ℕ → Option Removal
 drop_from m s b zero k = None
 drop_from m s b (suc n) k = or_later (drop_at m s b k (values_at k b)) (drop_from m s b n (suc k))
@@ -36,11 +36,11 @@ drop_from m s b (suc n) k = or_later (drop_at m s b k (values_at k b)) (drop_fro
 abbrev pub next_drop : ModelParts → Spans → Box → Option Removal
 next_drop m s b = drop_from m s b (length b) 1
 
--- the box after at most so many drops
+-- the box after at most n drops
 abbrev pub drops : ModelParts → Spans → ℕ → Box → Box
 drops m s zero b = b
 drops m s (suc n) b = unwrap_or (option_map (λ r. drops m s n (without r.cell r.value b)) (next_drop m s b)) b
 
--- after as many as are possible: each takes one of its values
+-- the box after as many drops as are possible: each takes one of its values
 abbrev pub after_drops : ModelParts → Spans → Box → Box
 after_drops m s b = drops m s (total_of b) b

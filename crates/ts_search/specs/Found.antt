@@ -1,4 +1,4 @@
--- The best series that a tree tells.
+-- The best series that a tree reports.
 use Rattle.std.specs.Prelude.{Bool, true, cond, ◌&&◌, List, [], ◌∷◌, ◌++◌, Option, Some, None}
 use Rattle.ts_base.specs.declared.ext.Ext.{Ext}
 use Rattle.ts_certificate.specs.declared.certificate.TreeLine.{TreeLine}
@@ -15,7 +15,8 @@ abbrev pub beats : Contest → Option Find → Ext → Bool
 beats c None v = true
 beats c (Some f) v = is_better c.goal v f.value
 
--- after one more line: the series of a box of one series that has a `worse` line, where it meets and is better
+-- the best series after one more line: that of a box of one series that has a `worse` line, where it meets and is
+-- better
 abbrev pub tally_after : Contest → Option Find → Form → TreeLine → Option Find
 tally_after c best form (Split k t) = best
 tally_after c best form (Remove k v j) = best
@@ -32,7 +33,7 @@ tally c best waiting [] = best
 tally c best [] (l ∷ ls) = best
 tally c best (b ∷ waiting) (l ∷ ls) = tally c (tally_after c best (form b) l) (made_by l b ++ waiting) ls
 
--- the told one, or the warm one where none is told or the warm one is better
+-- the reported series, or the warm one where none is reported or the warm one is better
 abbrev pub told_or_warm : Contest → Option Find → Option Find → Option Find
 told_or_warm c None warm = warm
 told_or_warm c (Some f) None = Some f

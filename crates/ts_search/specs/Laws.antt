@@ -25,21 +25,21 @@ use Rattle.ts_search.specs.Listed.{IsListAnswer}
 use Rattle.ts_search.specs.Solved.{IsSolution}
 use Rattle.ts_search.specs.Turns.{start, turns, solve_certificate, list_start, list_turns, list_certificate}
 
--- the certificate of so many turns is solved
+-- the certificate of n turns is solved
 abbrev pub SearchSolves : Type 0
 SearchSolves =
     (m : ModelParts) (s : Spans) (goal : Goal) (n : ℕ) → AreRight m s → IsSome m.objective →
     IsSolution m s goal n (solve_certificate (contest_for m s goal)
     (turns (contest_for m s goal) n (start (contest_for m s goal))))
 
--- the certificate of a listing is listed
+-- the certificate of a listing of n turns is listed
 abbrev pub SearchLists : Type 0
 SearchLists =
     (m : ModelParts) (s : Spans) (count n : ℕ) → AreRight m s →
     IsListAnswer m s count n (list_certificate count
     (list_turns (search_for m s) count n (list_start (search_for m s))))
 
--- there is one such certificate
+-- there is one solved certificate, and one listed certificate
 abbrev pub OneSolved : Type 0
 OneSolved =
     (m : ModelParts) (s : Spans) (goal : Goal) (n : ℕ) (c d : Cert) → AreRight m s → IsSome m.objective →
@@ -107,7 +107,7 @@ abbrev pub DiveEnds : Type 0
 DiveEnds =
     (m : ModelParts) (s : Spans) (goal : Goal) → AreRight m s → (x : List ℤ) × (form (dive_box m s goal) ≡ Alone x)
 
--- where it has a series, that one meets and has its value
+-- where the dive has a series, that one meets and has its value
 abbrev pub DiveMeets : Type 0
 DiveMeets =
     (m : ModelParts) (s : Spans) (goal : Goal) (f : Find) → AreRight m s → IsSome m.objective → dive m s goal ≡ Some f →

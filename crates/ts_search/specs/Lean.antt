@@ -20,17 +20,17 @@ use Rattle.ts_search.specs.Found.{tally_after}
 use Rattle.ts_search.specs.LineOf.{Contest, Sought, TheBest, TheFirst, search_in, sought_for, last, inner}
 use Rattle.ts_search.specs.LineOf.{requirements, is_cut_at, refuted_last, first_no}
 
--- the objective is not better at p than the best series told before; where none was told this holds nowhere
+-- the objective is not better at p than the best series reported before; where none was reported this holds nowhere
 abbrev pub below_told : Contest → Option Find → ℕ → Box → Bool
 below_told c None p b = false
 below_told c (Some f) p b = is_cut_at c p b (Better f.value)
 
--- at p it isn't as good as the warm series; without a warm series this holds nowhere
+-- the objective isn't as good at p as the warm series; without a warm series this holds nowhere
 abbrev pub below_warm : Contest → Option Find → ℕ → Box → Bool
 below_warm c None p b = false
 below_warm c (Some w) p b = is_cut_at c p b (AsGood w.value)
 
--- the one or the other; a listing has no objective
+-- the objective is below what was reported or is warm; a listing has no objective
 abbrev pub below : Sought → ℕ → Box → Bool
 below (TheBest c best) p b = below_told c best p b || below_warm c c.warm p b
 below (TheFirst c) p b = false
@@ -39,7 +39,7 @@ abbrev pub worse_line : ℕ → Bool → Option TreeLine
 worse_line p true = Some (Worse p)
 worse_line p false = None
 
--- `worse n`: on a box of one series, or below what was told or is warm
+-- `worse n`: on a box of one series, or below what was reported or is warm
 abbrev pub last_worse : Sought → Box → Form → Option TreeLine
 last_worse (TheBest c best) b (Alone x) = Some (Worse (last c.search))
 last_worse (TheBest c best) b (Wide k t) = worse_line (last c.search) (below (TheBest c best) (last c.search) b)
@@ -59,7 +59,7 @@ first_reason q b =
     (or_later (first_no (search_in q) b (requirements (search_in q)) 1) (inner_reason q b)))
 
 -- a split or a drop may stand: no requirement is refuted at a usable cell, and at none the objective is below what was
--- told or is warm
+-- reported or is warm
 pub record IsFree (q : Sought) (b : Box) : Type 0 where
   pub refuted : (j p : ℕ) → IsRefuted (search_in q).model.requirements (search_in q).spans j p b → ⊥
   pub above : (p : ℕ) → below q p b ≡ false
@@ -96,12 +96,12 @@ or_open opened (Worse p) = opened
 or_open opened Yes = opened
 or_open opened Unsearched = true
 
--- what is sought after one more line: the best series that was told is another, perhaps
+-- what is sought after one more line: the best series that was reported is another, perhaps
 abbrev pub sought_after : Sought → Form → TreeLine → Sought
 sought_after (TheBest c best) form l = TheBest c (tally_after c best form l)
 sought_after (TheFirst c) form l = TheFirst c
 
--- the lines for the boxes that wait; before them an `open` line stands or not, and so many `yes` lines
+-- the lines for the boxes that wait are lean; before them an `open` line stands or not, and a number of `yes` lines
 abbrev pub AreLean : Sought → Option ℕ → Bool → ℕ → List Box → List TreeLine → Type 0
 AreLean q most opened told waiting [] = Unit {0}
 AreLean q most opened told [] (l ∷ ls) = ⊥

@@ -22,7 +22,7 @@ abbrev pub lower : Box → Form → Box
 lower b (Alone x) = b
 lower b (Wide k t) = low_side k t b
 
--- the box after so many splits, each time the lower side
+-- the box after n splits, each time the lower side
 abbrev pub after_splits : ℕ → Box → Box
 after_splits zero b = b
 after_splits (suc n) b = after_splits n (lower b (form b))
@@ -32,17 +32,17 @@ abbrev pub SplitsIt : TreeLine → Form → Type 0
 SplitsIt l (Alone x) = ⊥
 SplitsIt l (Wide k t) = l ≡ Split k t
 
--- the lines of the box and of the lower sides below it, so many in all, are splits
+-- the lines of the box and of the lower sides below it, n in all, are splits
 abbrev pub AreSplits : Sought → ℕ → Box → Type 0
 AreSplits q zero b = Unit {0}
 AreSplits q (suc n) b = SplitsIt (line_of q b) (form b) × AreSplits q n (lower b (form b))
 
--- how many splits came one after the other, once this line is written too: as far as a number of 32 bits tells
+-- how many splits came one after the other, once this line is written too; at most the greatest number of 32 bits
 abbrev pub splits_after : TreeLine → ℕ → ℕ
 splits_after (Split k t) n = min (n + 1) 4294967295
 splits_after other n = 0
 
--- of the boxes that wait, the first one is such a box
+-- the lines of the first box that waits and of the lower sides below it, n in all, are splits
 abbrev pub AreAhead : Sought → ℕ → List Box → Type 0
 AreAhead q n [] = Unit {0}
 AreAhead q n (b ∷ waiting) = AreSplits q n b
@@ -54,8 +54,8 @@ TakesFreeValues c b (Wide k t) =
     (v : ℤ) (j : ℕ) → Contains (values_above t (values_at k b)) v →
     IsRefuted c.model.requirements c.spans j k (only k v b) → ⊥
 
--- none of so many splits, of the box and then of each lower side, takes away a value with which a requirement is
--- refuted at the cell
+-- none of n splits, of the box and then of each lower side, takes away a value with which a requirement is refuted at
+-- the cell
 abbrev pub AreTried : Search → ℕ → Box → Type 0
 AreTried c zero b = Unit {0}
 AreTried c (suc n) b = TakesFreeValues c b (form b) × AreTried c n (lower b (form b))
@@ -81,7 +81,7 @@ abbrev pub ExcludesInside : Sought → Type 0
 ExcludesInside (TheBest c found) = RefutesInside c.search × CutsInside c
 ExcludesInside (TheFirst c) = RefutesInside c
 
--- under the mark of its term, a span that refutes such a requirement refutes it on each box inside: the mark changes
+-- under the mark of its term, a span that refutes a requirement refutes it on each box inside: the mark changes
 -- nothing; or it makes 0 of -inf, and the term is to be at most a number that isn't below 0
 abbrev pub ShowsInside : Mark → Op → Ext → Type 0
 ShowsInside Same op bound = Unit {0}
@@ -90,7 +90,7 @@ ShowsInside ZeroMark op (Int b) = (op ≡ AtMost) × (pos 0 ≤ℤ b)
 ShowsInside ZeroMark op PosInf = ⊥
 ShowsInside Cells op bound = ⊥
 
--- what is known of the lines to come is so, and where leaps may be made, what excludes a box excludes those inside it
+-- what is known of the lines to come holds, and where leaps may be made, what excludes a box excludes those inside it
 pub record IsPaced (q : Sought) (p : Pace) (waiting : List Box) : Type 0 where
   pub inside : IsTrue p.leaps → ExcludesInside q
   pub ahead : AreAhead q p.ahead waiting

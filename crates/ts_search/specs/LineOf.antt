@@ -57,7 +57,7 @@ last c = length c.model.cells
 abbrev pub requirements : Search → ℕ
 requirements c = length c.model.requirements
 
--- the cells below the last one are so many
+-- how many cells are below the last one
 abbrev pub inner : Search → ℕ
 inner c = last c - 1
 
@@ -89,7 +89,7 @@ abbrev pub no_line : ℕ → Option ℕ → Option TreeLine → Option TreeLine
 no_line j None later = later
 no_line j (Some p) later = Some (No j p)
 
--- of so many requirements from j on the least that is refuted at a cell below the last one, and the least such cell
+-- of n requirements from j on the least that is refuted at a cell below the last one, and the least such cell
 abbrev pub first_no : Search → Box → ℕ → ℕ → Option TreeLine
 first_no c b zero j = None
 first_no c b (suc n) j = no_line j (least (λ p. is_refuted_at c j p b) (inner c) 1) (first_no c b n (suc j))
@@ -106,13 +106,13 @@ inner_worse (TheBest c found) b else_line =
     unwrap_or (option_map (λ p. Worse p) (least (λ p. cut_by c (bar_of found c.warm) p b) (inner c.search) 1)) else_line
 inner_worse (TheFirst c) b else_line = else_line
 
--- of a box of two or more series that is neither refuted nor cut at the last cell
+-- the line of a box of two or more series that is neither refuted nor cut at the last cell
 abbrev pub wide_line : Sought → Box → ℕ → ℤ → TreeLine
 wide_line q b k t =
     unwrap_or (first_no (search_in q) b (requirements (search_in q)) 1)
     (inner_worse q b (branch_line (search_in q) b k t))
 
--- of a box that isn't refuted at the last cell
+-- the line of a box that isn't refuted at the last cell
 abbrev pub form_line : Sought → Box → Form → TreeLine
 form_line (TheBest c found) b (Alone x) = Worse (last c.search)
 form_line (TheBest c found) b (Wide k t) =

@@ -15,7 +15,7 @@ use Rattle.ts_filter.specs.Holds.{IsListed}
 use Rattle.ts_filter.specs.RefutedWorseDrop.{Spans}
 use Rattle.ts_search.specs.Lean.{Lean}
 
--- they meet, in order, and each other series that meets comes after all of them
+-- the series meet, in order, and each other series that meets comes after all of them
 pub record AreFirst (m : ModelParts) (series : List (List ℤ)) : Type 0 where
   pub rising : AreRising series
   pub meet : AllByRecursion (Meets m) series

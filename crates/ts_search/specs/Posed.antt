@@ -18,12 +18,12 @@ pub record IsPosed (q : Problem) : Type 0 where
   pub terms : length q.model.now.terms.entries ≤ most_terms
   pub requirements : length q.model.now.requirements.items ≤ most_requirements
 
--- they are the machines of its terms
+-- the machines are those of the problem's terms
 abbrev pub AreTablesOf : Problem → List Automata → Type 0
 AreTablesOf q machines = machines ≡ automata_in (model_parts q.model.now)
 
--- the tables of these machines may be brought to a box: the problem is posed, they are its tables, and the box lies in
--- the model's
+-- the tables of these machines may be brought to a box: the problem is posed, the machines are those of its terms, and
+-- the box lies in the model's
 pub record MayBring (q : Problem) (machines : List Automata) (b : Box) : Type 0 where
   pub posed : IsPosed q
   pub part : IsPart b (model_parts q.model.now).cells

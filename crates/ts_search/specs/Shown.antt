@@ -29,7 +29,7 @@ use Rattle.ts_search.specs.declared.witnesses.Witnesses.{Witnesses}
 abbrev pub Seats : List ℤ → ℕ → List ℤ → List ℤ → Type 0
 Seats old i values new = (v : ℤ) × Contains values v × (new ≡ set old i v)
 
--- the witness is one of the machine, of values that cells may have; what is known of other values in its cells is so;
+-- the witness is one of the machine, of values that cells may have; what is known of other values in its cells holds;
 -- where its series is known to meet the requirement, no box with it refutes that
 pub record IsHeld (r : Require) (s : Shown) : Type 0 where
   pub witness : IsWitness s.machine.now s.witness
@@ -49,12 +49,12 @@ pub record IsEnds (values : List ℤ) (e : Interval) : Type 0 where
   pub low : Contains values e.low
   pub all : (v : ℤ) → Contains values v → (e.low ≤ℤ v) × (v ≤ℤ e.high)
 
--- they are so of each domain
+-- each interval has the least and the greatest value of its domain
 abbrev pub AreEnds : Box → List Interval → Type 0
 AreEnds b ends = (i : ℕ) (e : Interval) → slice_get ends i ≡ Some e → IsEnds (get_or b i []) e
 
--- each is of the machine of the requirement's term, over the model's cells that it looks at; what is marked fits the
--- model, and there are ends for each cell
+-- each witness is of the machine of the requirement's term, over the model's cells that it looks at; what is marked
+-- fits the model, and there are ends for each cell
 pub record AreHeld (q : Problem) (w : Witnesses) : Type 0 where
   pub few : length w.each.items ≤ requirements (search_of q)
   pub machine : OfEach q w
@@ -76,7 +76,7 @@ pub record AreShown (q : Problem) (w : Witnesses) (b : Box) : Type 0 where
 abbrev pub is_shown : Witnesses → ℕ → Bool
 is_shown w j = unwrap_or (option_map (λ (s : Shown). s.met) (slice_get w.each.items (j - 1))) false
 
--- each series is one of the box, what is marked of terms and cells is so there, and its domains have these ends
+-- each series is one of the box, what is marked of terms and cells holds there, and its domains have these ends
 pub record AreMarked (q : Problem) (w : Witnesses) (b : Box) : Type 0 where
   pub shown : AreShown q w b
   pub marks : AreKept q.model.now.requirements.items (search_of q).spans b w.kept

@@ -38,7 +38,7 @@ found_after c found (Wide k t) (Worse p) = found
 found_after c found form Yes = found
 found_after c found form Unsearched = found
 
--- after a line on the box b, before those after it
+-- the state after a line on the box b, with the boxes that wait behind it
 abbrev pub after : Contest → State → Box → List Box → TreeLine → State
 after c s b behind l = record {
   lines = s.lines ++ l ∷ [];
@@ -122,7 +122,7 @@ abbrev pub list_turn_on : Search → ListState → List Box → ListState
 list_turn_on c s [] = s
 list_turn_on c s (b ∷ behind) = list_after s b behind (line_of (TheFirst c) b)
 
--- nothing more as soon as so many series are listed
+-- one turn of a listing; none as soon as `count` series are listed
 abbrev pub list_turn : Search → ℕ → ListState → ListState
 list_turn c count s = cond (nat_lt (length s.listed) count) (list_turn_on c s s.pending) s
 

@@ -25,7 +25,7 @@ use ts_certificate::{Aim, Certificate, Claim, TreeLine};
 use ts_compile::Program;
 use ts_model::Model;
 
-/// The certificate of the first best series of a model, or of that none meets. If `budget` lines don't suffice, it has
+/// The certificate of the first best series of a model, or of there being none. If `budget` lines don't suffice, it has
 /// exactly that many, and the best series that is known. `p` is the program of `m`, which has an objective and keeps
 /// the limits of its need.
 ///

@@ -22,8 +22,8 @@ use ts_domain::Boxed;
 use ts_filter::AllTables;
 use ts_frontier::{Form, form_of};
 
-/// The dive's series, if the one that is left meets. It ends early where a requirement is refuted on the way: no series
-/// that is left meets then.
+/// The dive's series, if the one that is left meets. The dive ends early where a requirement is refuted on the way: no
+/// series that is left meets then.
 pub(crate) fn dive(
     alloc: Global,
     contest: &Contest<'_>,

@@ -45,7 +45,7 @@ pub fn drops_end()
 
 /// Each cell keeps the value that leaves the best end of the objective's span open, the least of several. The dive ends
 /// at one series; where it meets, that is the dive's series, with its value. Where a requirement is refuted on the way,
-/// it has none.
+/// the dive has none.
 pub fn dive_ends()
     ensures kept { KeptFits }
     ensures alone { DiveEnds }

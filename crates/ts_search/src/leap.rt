@@ -22,11 +22,11 @@ use ts_domain::Boxed;
 use ts_filter::AllTables;
 use ts_frontier::{Halving, halving_from};
 
-/// A leap ends before a cell with more values.
+/// A leap ends before a cell with more values than this.
 const MOST_VALUES: u64 = 256;
 
-/// How many lines, that of the box and those below it, are known to be splits. It goes down `reach` splits, or as far
-/// as these take away no value that might be dropped, and asks there; then half as far, and so on.
+/// How many lines, that of the box and those below it, are known to be splits. A leap goes down `reach` splits, or as
+/// far as these take away no value that might be dropped, and asks there; then half as far, and so on.
 pub(crate) fn leap(
     alloc: Global,
     seeking: &Seeking<'_>,
@@ -58,7 +58,7 @@ pub(crate) fn leap(
 }
 
 /// Goes down splits that take away no value that might be dropped, up to `reach`, each time to the lower side, and
-/// answers how many. The box below these has more series than one, if they are any.
+/// answers how many. If there are any, the box that is reached has more series than one.
 fn go_down(
     alloc: Global,
     problem: &Problem<'_>,

@@ -65,9 +65,9 @@ pub fn list(
     list_by(alloc, m, p, &mut tables, true, count, budget)
 }
 
-/// How many questions a listing asks of tables, each about one cell, and about how many values of cells it looks for
-/// drops by spans, in all: as it is, or without a witness. The certificate is the same. It is for tests and for
-/// measuring: answers alone don't tell whether witnesses are used.
+/// How many questions a listing asks of tables, each about one cell, and how many values it asks spans about when it
+/// looks for drops, in all: as it is, or without a witness. The certificate is the same. It is for tests and
+/// measurements: answers alone don't show whether witnesses are used.
 pub fn asked_by_list(
     alloc: Global,
     m: &Model,

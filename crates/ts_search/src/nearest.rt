@@ -13,7 +13,7 @@ use ts_glue::Machine;
 use ts_model::{Require, satisfies};
 use ts_witness::Witness;
 
-/// So many values are tried from either end of a domain.
+/// How many values are tried from either end of a domain.
 const MOST_TRIED: u64 = 4;
 
 /// A value of a cell, and how far from the bound the term is with it.

@@ -17,10 +17,10 @@ use ts_domain::Boxed;
 use ts_filter::AllTables;
 use ts_frontier::first_halving;
 
-/// A leap goes down so many boxes at most.
+/// A leap goes down this many boxes at most.
 const FARTHEST: u32 = 64;
 
-/// A leap goes down so many boxes fewer than splits came one after the other: where few do, it costs more than it
+/// A leap goes down this many boxes fewer than splits came one after the other: where few came, it costs more than it
 /// spares.
 const FEWER: u32 = 4;
 
@@ -87,7 +87,7 @@ impl Pace {
         self.row.saturating_sub(FEWER).min(FARTHEST)
     }
 
-    /// After a leap so many lines are known. Where none is, the splits are counted anew.
+    /// Notes how many lines a leap has made known. Where it made none known, the splits are counted anew.
     fn learn(&mut self, ahead: u32)
         ensures leaps { self.new.leaps ≡ self.old.leaps }
         ensures ahead { self.new.ahead ≡ ahead }
@@ -98,7 +98,7 @@ impl Pace {
         }
     }
 
-    /// One more line is written.
+    /// Notes that one more line is written.
     pub(crate) fn pass(&mut self, line: &TreeLine)
         ensures leaps { self.new.leaps ≡ self.old.leaps }
         ensures ahead { self.new.ahead ≡ self.old.ahead - 1 }

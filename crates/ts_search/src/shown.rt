@@ -25,13 +25,14 @@ use ts_glue::Machine;
 use ts_model::Require;
 use ts_witness::{Spared, Witness};
 
-/// A series that doesn't meet its requirement is bettered at so many cells of a box, the first that have a choice.
+/// At how many cells of a box a series that doesn't meet its requirement is bettered: the first that have a choice.
 const FEW: u32 = 4;
 
-/// It is so on the first of so many boxes on which it doesn't, and then on each of so many.
+/// A series that doesn't meet its requirement is bettered on each of this many boxes, and then on one in this many.
 const SOON: u32 = 8;
 
-/// On the first of so many boxes it is bettered at all cells that have a choice.
+/// A series that doesn't meet its requirement is bettered at all cells that have a choice on the first box, and then on
+/// one in this many.
 const EACH: u32 = 32;
 
 /// Nothing is known of any value.
@@ -188,7 +189,7 @@ impl<'a> Shown<'a> {
     }
 
     /// Puts at place `k` of the series, counted from 1, a value of the domain that brings it nearer to what the
-    /// requirement asks, if there is a choice and `left` isn't 0; so many are left then.
+    /// requirement asks, if there is a choice and `left` isn't 0. Answers how many such changes are left.
     fn better(&mut self, r: &Require, k: u32, domain: &Domain, left: u32) -> u32
         requires held { IsHeld r.now self.old }
         requires few { length (series_of self.old.witness) ≤ most_cells }
@@ -212,8 +213,8 @@ impl<'a> Shown<'a> {
         left - 1
     }
 
-    /// That of a few values of the domain, `from` among them, which at place `k` of the series, counted from 1, brings
-    /// it nearest to what the requirement asks; `from` where the machine can't be split.
+    /// Of a few values of the domain, `from` among them, the one that brings the series nearest to what the requirement
+    /// asks at its place `k`, counted from 1; `from` where the machine can't be split.
     fn chosen(&mut self, r: &Require, k: u32, domain: &Domain, from: i64) -> i64
         requires held { IsHeld r.now self.old }
         requires few { length (series_of self.old.witness) ≤ most_cells }
@@ -316,7 +317,7 @@ fn looked_at<'a>(window: Option<Range>, cells: &'a [Domain]) -> &'a [Domain]
     }
 }
 
-/// At how many cells a series is bettered that hasn't met its requirement on so many boxes: the longer it fails, the
+/// At how many cells a series is bettered that hasn't met its requirement on `failed` boxes: the longer it fails, the
 /// less is spent on it.
 fn cells_to_better(failed: u32) -> u32 {
     if failed % EACH == 0 {

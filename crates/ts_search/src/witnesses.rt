@@ -30,7 +30,7 @@ pub(crate) struct Witnesses<'a> {
 }
 
 impl<'a> Witnesses<'a> {
-    /// One of each requirement of the model. These are the machines of its terms.
+    /// A witness of each requirement of the model. The machines are those of its terms.
     pub(crate) fn new(
         alloc: Global,
         problem: &Problem<'a>,
@@ -62,7 +62,7 @@ impl<'a> Witnesses<'a> {
         Ok(Witnesses { each, kept, ends })
     }
 
-    /// Brings all of them into the box. Nothing is allocated.
+    /// Brings all witnesses into the box. Nothing is allocated.
     pub(crate) fn bring(&mut self, problem: &Problem<'_>, cells: &Boxed)
         requires posed { IsPosed problem.now }
         requires part { IsPart cells.now.present (search_of problem.now).model.cells }

@@ -1,4 +1,4 @@
--- The spans of a model's terms hold their values, and tell those of a single series.
+-- The spans of a model's terms hold their values, and those alone on a single series.
 use Rattle.std.proofs.Common.{◌≡◌, ℕ, zero, suc, ℤ, List, [], ◌∷◌, length, map, Option, Some, None, slice_get, refl, sym, ◌∙◌, ap, subst, arith}
 use Rattle.std.specs.List.{AllByRecursion}
 use Rattle.std.specs.Prelude.{IfSome, option_map}

@@ -14,11 +14,11 @@ use Rattle.ts_model.specs.Views.{model_parts}
 use Rattle.ts_filter.specs.Laws.{HoldsValues, TellsSingles}
 use Rattle.ts_spans.specs.Machines.{automata_in, spans_in}
 
--- at each cell that may be used they hold the values of their terms on each series of a box
+-- at each cell that may be used the spans of a model's terms hold their values on each series of a box
 abbrev pub SpansHoldValues : Type 0
 SpansHoldValues = (m : ModelParts) → IsWhole m → HoldsValues m (spans_in m)
 
--- on the box of one series they are at the last cell its values alone
+-- on the box of one series the spans of a model's terms are at the last cell its values alone
 abbrev pub SpansTellSingles : Type 0
 SpansTellSingles = (m : ModelParts) → IsWhole m → IsBox m.cells → TellsSingles m (spans_in m)
 

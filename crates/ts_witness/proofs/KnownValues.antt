@@ -58,7 +58,7 @@ new_spared s n x none are count box m r letters = record {
 pub entry_there : (xs : List Known) (i : ℕ) (e : Known) → e ≡ get_or xs i e → i < length xs → slice_get xs i ≡ Some e
 entry_there xs i e is below = slice_get-get_or xs i e below ∙ ap Some (sym is)
 
--- what the runs have beside a place tells the value with each value there
+-- what the runs have beside a place decides the value with each value there
 
 module _ (m : Machine) (y : List ℤ) (i : ℕ) (s : Sides) (inside : i < length y) (few : length y ≤ most_cells) (cells : AreCellValues y)
     (sides : AreSides m y i s) where
@@ -125,7 +125,7 @@ pub cleared : (m : Machine) (r : Require) (s t : Spared) (i : ℕ) (new : Known)
 cleared m r s t i new none cells letters change h =
     put_spared m r s t i new cells letters change h (none_known m r (length s.cells.now) (get_or s.cells.now i []) i new none)
 
--- what there is beside the place then
+-- what is beside a place of which nothing is known any more
 pub beside_cleared : (m : Machine) (y : List ℤ) (xs : List Known) (i : ℕ) (new e : Known) → i < length xs → AreSides m y i new.sides →
     slice_get (set xs i new) i ≡ Some e → AreSides m y i e.sides
 beside_cleared m y xs i new e l sides there =
@@ -155,7 +155,7 @@ module _ (m : Machine) (r : Require) (y : List ℤ) (old s : Spared) (i : ℕ) (
         (subst (λ n. IsKnown m r n (get_or s.cells.now i []) i e) same_long (spared.each i e there)) v
         (subst (λ z. Contains (get_or z.now i []) v) (sym cells) has) from to
 
-    -- a value of the cell is one
+    -- a value of the cell is one that a cell may have
     pub cell_value : (v : ℤ) → Contains (get_or old.cells.now i []) v → IsCellValue v
     cell_value v has =
         each_contains WithinLimits (get_or s.cells.now i []) v domain.within (subst (λ z. Contains (get_or z.now i []) v) (sym cells) has)
@@ -215,7 +215,7 @@ learnt_beside m y s t i old new time change seen sides at h = record {
       (get_set s.each.items i j new e (ap (λ z. slice_get z j) (sym change) ∙ there));
 }
 
--- with a value that compares with the cells beside the place as one does with which it meets
+-- the series meets with a value that compares with the cells beside the place as one does with which it meets
 pub like_meets : (b : Body) (r : Require) (y : List ℤ) (i : ℕ) (u v : ℤ) → IsLike b r y i u → signature_of (set y i u) ≡ signature_of (set y i v) →
     MeetsWith b r y i v
 like_meets b r y i u v like same = ap (compares r.op r.bound) (sym (set_answer b like.0 y i u v same)) ∙ like.1

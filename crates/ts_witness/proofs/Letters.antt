@@ -113,7 +113,7 @@ pub set_answer : (b : Body) → ReadsLetters b → (xs : List ℤ) (i : ℕ) (v 
     answer b (set xs i v) ≡ answer b (set xs i w)
 set_answer b h xs i v w e = same_answer b h (set xs i v) (set xs i w) (length-set xs i v ∙ sym (length-set xs i w)) e
 
--- as the code compares them
+-- values that compare in the same way, as the code compares them
 pub like_at : (xs : List ℤ) (i : ℕ) (u v : ℤ) → (i ≡ 0) ⊎ ((x : ℤ) → slice_get xs (i - 1) ≡ Some x → letter_of x u ≡ letter_of x v) →
     (length xs ≤ i + 1) ⊎ ((x : ℤ) → slice_get xs (i + 1) ≡ Some x → letter_of u x ≡ letter_of v x) → signature_of (set xs i u) ≡ signature_of (set xs i v)
 like_at xs i u v before behind =

@@ -78,7 +78,7 @@ one_more b cells states known x at r l g h st = record {
         subst (λ z. Stands b (standing_of z)) same st)
         s
 
--- the same for a place from 1 on
+-- the place before one of the known places, from 1 on, is known
 below : (i known : ℕ) → (i ≡ 0 → ⊥) → i ≤ known → i - 1 < known
 below zero known n l = absurd (n refl)
 below (suc i) known n l = omega (arith, l)
@@ -123,7 +123,7 @@ pub next_side : (b : Body) (cells : List ℤ) (states : List At) (known i : ℕ)
 next_side b cells states known zero s r n l e f v = absurd (n refl)
 next_side b cells states known (suc i) s r n l e f v = moved_at b cells states known (suc i) r n l s.at e s.cell v f
 
--- as what it has beside the place is known to be
+-- what a run has beside a place is what is known of it
 pub same_side : (b : Body) (cells : List ℤ) (states : List At) (known i : ℕ) (s : Side) (a : At) (x : ℤ) → IsRun b cells states known → (i ≡ 0 → ⊥) →
     i ≤ known → s.at ≡ a → s.cell ≡ x → a ≡ get_or states (i - 1) a → x ≡ get_or cells (i - 1) x → IsSide b cells i s
 same_side b cells states known i s a x r n l at cell e f =

@@ -17,7 +17,7 @@ use Rattle.ts_witness.specs.declared.spared.Spared.{Spared}
 abbrev pub MeetsWith : Body → Require → List ℤ → ℕ → ℤ → Type 0
 MeetsWith b r y i v = compares r.op r.bound (answer b (set y i v)) ≡ true
 
--- it does with u, and the automaton's steps are by letters alone
+-- the series with u at the place i meets the requirement, and the automaton's steps are by letters alone
 abbrev pub IsLike : Body → Require → List ℤ → ℕ → ℤ → Type 0
 IsLike b r y i u = ReadsLetters b × MeetsWith b r y i u
 
@@ -32,7 +32,7 @@ IsKnown m r n values i e =
     (p : Pair) → pair_of m ≡ Some p → (v : ℤ) → Contains values v → e.least ≤ℤ v → v ≤ℤ e.greatest →
     compares r.op r.bound (value_between p n i e.sides v) ≡ true
 
--- what is known of each cell is so, and what is said of the machine's steps
+-- what is known of each cell holds, and so does what is said of the machine's steps
 pub record IsSpared (m : Machine) (r : Require) (s : Spared) : Type 0 where
   pub box : IsBox s.cells.now
   pub count : length s.each.items ≡ length s.cells.now
@@ -40,7 +40,7 @@ pub record IsSpared (m : Machine) (r : Require) (s : Spared) : Type 0 where
       IsKnown m r (length s.cells.now) (get_or s.cells.now i []) i e
   pub letters : IsTrue s.letters → ReadsLetters (forward_of m)
 
--- none was last seen later than now; those that were seen now have that beside their place on the series, as long as
+-- no place was last seen later than now; those that were seen now have that beside them on the series, as long as
 -- the time doesn't stand still
 pub record AreBeside (m : Machine) (y : List ℤ) (s : Spared) : Type 0 where
   pub past : (i : ℕ) (e : Known) → slice_get s.each.items i ≡ Some e → e.time ≤ s.time

@@ -24,7 +24,7 @@ MetIsAlive =
     IsPart b m.cells → IsRequirement m.requirements j r → InBox x b → IsMet m x r →
     (p : ℕ) → is_refuted m.requirements s j p b ≡ false
 
--- with the value v of cell k there it meets requirement j: v isn't dropped by j
+-- a series of the box with the value v at cell k, in place of its own, meets requirement j: v isn't dropped by j
 abbrev pub ChangedIsKept : Type 0
 ChangedIsKept =
     (m : ModelParts) (s : Spans) → HoldsValues m s → (j : ℕ) (r : Require) (b : Box) (x : List ℤ) →

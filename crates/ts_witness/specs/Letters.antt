@@ -10,7 +10,7 @@ use Rattle.ts_automaton.specs.Typing.{each_is, reads_registers}
 abbrev pub reads_letters : Move → Bool
 reads_letters m = each_is reads_registers m.to
 
--- nor in those of any move of the state
+-- the value of no cell stands in the expressions of any move of the state
 abbrev pub node_reads_letters : Node → Bool
 node_reads_letters s = reads_letters s.less && reads_letters s.equal && reads_letters s.greater
 

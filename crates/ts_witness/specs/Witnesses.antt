@@ -18,7 +18,7 @@ pub record IsWitness (m : Machine) (w : Witness) : Type 0 where
   pub ahead : Runs (forward_of m) w.ahead
   pub behind : (p : Pair) → pair_of m ≡ Some p → Runs p.reverse w.behind
 
--- the runs have that beside the place i of the series
+-- the runs have these sides beside the place i of the series
 pub record AreSides (m : Machine) (y : List ℤ) (i : ℕ) (s : Sides) : Type 0 where
   pub left : IsSide (forward_of m) y i s.left
   pub right : (p : Pair) → pair_of m ≡ Some p → IsSide p.reverse (reverse y) (length y - suc i) s.right

@@ -18,7 +18,7 @@ pub(crate) struct Side {
 }
 
 impl Side {
-    /// Whether it is this.
+    /// Whether this is what an automaton has before a place.
     fn is(&self, at: &At, cell: i64) -> bool
         ensures state { IsTrue result → self.now.at ≡ at.now }
         ensures cell { IsTrue result → self.now.cell ≡ cell }
@@ -137,7 +137,7 @@ impl Run {
         self.arrived(a, i, v)
     }
 
-    /// What is known beside place `i`: with a value there it tells where the automaton stands next.
+    /// What is known beside place `i`: with a value there it decides where the automaton stands next.
     pub(crate) fn side(&mut self, a: &Automaton, i: usize) -> Side
         requires runs { Runs a.now self.old }
         requires place { i < length (cells_in self.old) }
@@ -158,7 +158,7 @@ impl Run {
         }
     }
 
-    /// Whether it is this that is known beside place `i`, as far as it matters: at the first place nothing does.
+    /// Whether this side is what is known beside place `i`, as far as it matters: at the first place nothing does.
     pub(crate) fn has_beside(&mut self, a: &Automaton, i: usize, side: &Side) -> bool
         requires runs { Runs a.now self.old }
         requires place { i < length (cells_in self.old) }

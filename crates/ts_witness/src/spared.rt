@@ -24,7 +24,7 @@ use ts_domain::Domain;
 use ts_glue::Machine;
 use ts_model::Require;
 
-/// So many values of a cell are tried at once.
+/// How many values of a cell are tried at once.
 const MOST_TRIED: u64 = 256;
 
 /// Where the runs have this beside a cell, a series is known to meet a requirement with each value there from `least`
@@ -131,7 +131,7 @@ impl<'a> Spared<'a> {
     /// A number, `high` at most, up to which the series meets the requirement with each value of cell `k`, counted from
     /// 1, from `low` on, which is one of them. The machine is that of its term, and can be split. The requirement drops
     /// none of these values there on any box with the series. A greater number may do as well: there may be too many
-    /// values to be tried, or the series doesn't meet the requirement with one that the box hasn't.
+    /// values to be tried, or the series doesn't meet the requirement with one that the box doesn't have.
     pub fn keeps_up_to(
         &mut self,
         witness: &mut Witness,
@@ -246,7 +246,7 @@ impl<'a> Spared<'a> {
         }
     }
 
-    /// The series is another from now on.
+    /// Notes that the series is another from now on.
     pub fn pass(&mut self)
         ensures same { self.new.cells ≡ self.old.cells }
         ensures spared { (m : Machine) (r : Require) → IsSpared m r self.old → IsSpared m r self.new }

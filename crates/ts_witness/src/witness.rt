@@ -329,7 +329,7 @@ fn side_behind(run: &mut Run, m: &Machine, j: usize) -> Side
     }
 }
 
-/// Whether it is this that the run of the reverse automaton has beside the cell after which there are `j` others.
+/// Whether this is what the run of the reverse automaton has beside the cell after which there are `j` others.
 fn has_behind(run: &mut Run, m: &Machine, j: usize, side: &Side) -> bool
     requires split { IsSome (pair_of m.now) }
     requires runs { (p : Pair) → pair_of m.now ≡ Some p → Runs p.reverse run.old }

@@ -53,7 +53,7 @@ overflow_add-k-end c =
     c.cells-k-end.ensures.count in
     let few = c.requires.posed.right.whole.few in omega (arith, end, few)
 
--- the end of the loop over the cells is told by the number of cells of the box before it, which is that of the model
+-- the loop over the cells ends at the number of cells of the box before it, which is that of the model
 pub keep_one-requires-clause-cell : goal.keep_one-requires-clause-cell
 keep_one-requires-clause-cell c =
     let s = search_of c.args.contest.now.problem in

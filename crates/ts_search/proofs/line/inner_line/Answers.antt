@@ -12,7 +12,7 @@ returns-in-Some-clause-line c =
     wide_no (TheBest (contest_of c.args.contest.now) (find_of c.args.found.now)) c.args.cells.now.present c.in-Some.line
     c.args.halving.cell c.args.halving.at (sym c.in_ok-line.ensures.line ∙ c.in-Some.is)
 
--- or the objective is cut there
+-- the objective is cut below the last cell
 pub returns-in-Some-2-clause-line : goal.returns-in-Some-2-clause-line
 returns-in-Some-2-clause-line c =
     inner_cut (contest_of c.args.contest.now) (find_of c.args.found.now) c.args.cells.now.present c.args.halving.cell c.args.halving.at c.in_ok-p.field-0

@@ -25,7 +25,7 @@ first_refuted-requires-clause-looks c =
     looks_of q c.requires.asked.posed c.args.cells.now.present c.requires.asked.part c.args.tables.now.machines c.index-require.result.now.term
     c.requires.asked.tables
 
--- its witness meets it
+-- the requirement's witness meets it
 pub returns-then-shows-clause-found : goal.returns-then-shows-clause-found
 returns-then-shows-clause-found c =
     shown_nowhere c.args.self.now c.requires.asked.posed c.args.witnesses.now c.args.cells.now.present c.requires.asked.part c.requires.shown c.args.j

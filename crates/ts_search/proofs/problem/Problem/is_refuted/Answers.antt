@@ -34,7 +34,7 @@ refuted-requires-clause-looks c =
     looks_of q c.requires.asked.posed c.args.cells.now.present c.requires.asked.part c.args.tables.now.machines c.index-require.result.now.term
     c.requires.asked.tables
 
--- its witness meets it
+-- the requirement's witness meets it
 pub returns-then-shows-clause-told : goal.returns-then-shows-clause-told
 returns-then-shows-clause-told c =
     let q = c.args.self.now in

@@ -50,7 +50,7 @@ returns-clause-found c =
     (subst (λ ms. IsFirstDrop c.deref.result.now (spans_of ms) b found) c.requires.asked.tables h)))
     c.next_drop.ensures.found
 
--- without a requirement there is none
+-- without a requirement there is no drop
 pub returns-then-requirements-eq0-clause-found : goal.returns-then-requirements-eq0-clause-found
 returns-then-requirements-eq0-clause-found c =
     never_dropped c.args.self.now c.requires.asked.posed c.args.cells.now.present c.requires.asked.part

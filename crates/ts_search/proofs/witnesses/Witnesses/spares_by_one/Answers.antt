@@ -131,7 +131,7 @@ returns-clause-spared c =
     (λ v has low up. c.spares_up_to.ensures.kept v has (subst (λ z. z ≤ℤ v) (sym (to_z-of_z w64 c.args.values.low (search rules))) low) up) v
     (subst (λ z. v ≤ℤ z) (to_z-of_z w64 c.spares_up_to.result (search rules)) up)
 
--- of another term
+-- a requirement of another term
 
 pub returns-then-r-at-clause-spared : goal.returns-then-r-at-clause-spared
 returns-then-r-at-clause-spared c =

@@ -51,7 +51,7 @@ returns-then-has_beside-clause-here c =
     λ e there. beside_cleared m y xs i _ e below
     (subst (λ (z : Known). AreSides m y i z.sides) same (c.has_beside.ensures.sides c.if-has_beside.true)) there
 
--- it is another
+-- what is beside the place is another
 
 pub returns-else-has_beside-clause-spared : goal.returns-else-has_beside-clause-spared
 returns-else-has_beside-clause-spared c =

@@ -121,7 +121,7 @@ returns-clause-beside c =
     (entry_there s.each.items i c.index-known.result.now c.index-known.ensures (omega (arith, count, as_long, long, to, from)))
     c.bring_beside.ensures.beside
 
--- with what is told, the values are kept
+-- with each value up to the one that is answered the series meets: these are kept
 
 pub returns-then-high-reach-clause-kept : goal.returns-then-high-reach-clause-kept
 returns-then-high-reach-clause-kept c =
