@@ -39,7 +39,7 @@ high_some d high t here greatest = (
 high_test : (a b : ℤ) → (int_lt a b ≡ true) ↔ (a <ℤ b)
 high_test a b = (λ h. grind (arith, ints), λ h. grind (arith, ints))
 
--- so where t isn't below the least value, the greatest one tells whether there are both sides
+-- where t isn't below the least value, the greatest one decides whether there are both sides
 pub sides_told : (d : List ℤ) (low high t t' high' : ℤ) → t' ≡ t → high' ≡ high → low ≤ℤ t → Contains d low → Contains d high →
     ((v : ℤ) → Contains d v → (low ≤ℤ v) × (v ≤ℤ high)) → IsTrue (int_lt t' high') ↔ ((values_up_to t d ≢ []) × (values_above t d ≢ []))
 sides_told d low high t t' high' at end reached least greatest all =
@@ -48,7 +48,7 @@ sides_told d low high t t' high' at end reached least greatest all =
     let above = high_some d high t greatest (λ v c. (all v c).1) in
     (λ h. (below, above.0 ((high_test t high).0 (sym same ∙ h))), λ f. same ∙ (high_test t high).1 (above.1 f.1))
 
--- and below the least value there is none
+-- where t is below the least value, there is no lower side
 pub none_below : (d : List ℤ) (low t low' t' : ℤ) → low' ≡ low → t' ≡ t → t <ℤ low → Contains d low → ((v : ℤ) → Contains d v → low ≤ℤ v) →
     IsTrue (int_le low' t') ↔ ((values_up_to t d ≢ []) × (values_above t d ≢ []))
 none_below d low t low' t' start at less least all =

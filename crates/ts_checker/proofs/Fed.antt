@@ -51,7 +51,7 @@ takes_said old mid new text l number same answer count model reading calm taken 
       calm = calm ∙ ap (λ (z : Checking). z.missing) same;
     }
 
--- so a checker whose reader has taken the line
+-- a checker whose reader has taken the line has taken it once the line is judged
 pub step_judged : (m : ModelParts) (r after : Reading) (t : Stand) (f : Option ℕ) (w : Bool) (old new : Checking) (text : List ℕ) (l : CertLine) (number : ℕ) →
     ◌≡◌ {A = Checking} (record { model = m; reading = r; stand = t; failed = f; missing = w }) old → after ≡ reading_with r text → answer_to r text ≡ Ok l →
     number ≡ r.next → new.model ≡ m → new.reading ≡ after → new.missing ≡ w → TakesOn m (spans_in m) t f number l new.stand new.failed → Takes old text new

@@ -29,7 +29,7 @@ after_last (y ∷ []) (suc n) z x l e = absurd (omega (arith, l))
 after_last (y ∷ w ∷ ys) zero z x l e = absurd (omega (arith, l))
 after_last (y ∷ w ∷ ys) (suc n) z x l e = after_last (w ∷ ys) n z x (omega (arith, l)) e
 
--- the last of those that are read
+-- the last of the series that were read, if there is one, decides
 pub last_answered : (xs : List (Vec ℤ)) (z : Vec ℤ) (x w : List ℤ) (t : Bool) → Some z ≡ slice_get xs (length xs - 1) → w ≡ z.items →
     (IsTrue t ↔ IsBefore w x) → IsTrue t ↔ ComesAfter (series_of xs) x
 last_answered xs z x w t e same told =

@@ -48,7 +48,7 @@ behind_taken (Judging j) (Judging k) part t bytes h = record {
   read = t.0 h.rest h.read;
 }
 
--- the same of the whole input
+-- more bytes of one line of the whole input
 
 pub behind_goes_on : (old : Input) (o p : OpenedModel) (part : List ℕ) → old ≡ Behind o → TakesPart o part p → TakesBytes old part (Behind p)
 behind_goes_on old o p part is t bytes h = behind_taken o p part t bytes (subst (HasTaken bytes) is h)
@@ -100,7 +100,7 @@ opened_behind bytes text (Judging j) ends is = record {
   read = is.1;
 }
 
--- at the line '%%'
+-- the model ends at the line '%%'
 module _ (bytes : List ℕ) (t : ModelText) (read : Result Model ModelStop) (gives : (b : List ℕ) → AtLine IsMark b t → EndsSo t.need b read)
     (h : EndsIn bytes (InModel t)) where
   mark_reads : Reads read (model_reading Listed (gives bytes h.0).text)
@@ -112,7 +112,7 @@ module _ (bytes : List ℕ) (t : ModelText) (read : Result Model ModelStop) (giv
   pub mark_opens : (o : OpenedModel) → ((text : List ℕ) → Reads read (model_reading Listed text) → IsOpened text o) → IsBehind bytes o
   mark_opens o opens = opened_behind bytes (gives bytes h.0).text o (gives bytes h.0).ends (opens (gives bytes h.0).text mark_reads)
 
--- at the end
+-- the model ends with the input
 pub end_reads : (bytes : List ℕ) (t : ModelText) (read : Result Model ModelStop) →
     ((b : List ℕ) → IsInModel b t → Reads read (model_reading t.need (model_part b))) → t.need ≡ Listed → IsInModel bytes t →
     Reads read (model_reading Listed (model_part bytes))
@@ -128,7 +128,7 @@ pub behind_calm : (bytes : List ℕ) (o : OpenedModel) → IsBehind bytes o → 
 behind_calm bytes (Refused n kind) h = tt
 behind_calm bytes (Judging j) h = h.read.judged.checked.calm
 
--- so few bytes came of the certificate
+-- few bytes of the certificate came
 
 pub opened_few : (text : List ℕ) (o : OpenedModel) → IsOpened text o → HasFew o 0
 opened_few text (Refused n kind) h = tt
@@ -178,7 +178,7 @@ all_eaten piece rest old new e none =
     subst (λ (x : List ℕ). TakesBytes old x new)
     (sym (append-nil e.done) ∙ ap (λ (x : List ℕ). e.done ++ x) (sym (nil_from_length rest none)) ∙ e.parts) e.taken
 
--- the same by what contracts see of a verifier
+-- bytes that a verifier takes, by what contracts see of it
 
 module _ (input : Input) (count : ℕ) (missing : Bool) (v : Verifying)
     (is : ◌≡◌ {A = Verifying} (record { input = input; count = count; missing = missing }) v) where

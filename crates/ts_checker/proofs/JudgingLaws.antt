@@ -278,7 +278,7 @@ module _ (j : Judging) (end : Checking) (v : Verdict) (final : IsFinal end v) wh
       go (b ∷ bs) some t =
           shown end j.checker.model v t.model final (h.texts ++ (b ∷ bs) ∷ []) (one_line_more h.texts (b ∷ bs) j.checker end h.judged.checked t (λ none. next))
 
--- none was, as none stands there or a line was refused before
+-- no last line was judged, as none stands there or a line was refused before
 module _ (j : Judging) (v : Verdict) (final : IsFinal j.checker v) where
   pub shown_at_once : length j.line.bytes.items ≡ 0 → j.checker.reading.stop ≡ None → (bytes : List ℕ) → HasRead bytes j →
       IsShownBy (strict_lines bytes) j.checker.model v
@@ -302,7 +302,7 @@ module _ (j : Judging) (v : Verdict) (final : IsFinal j.checker v) where
       go (b ∷ bs) =
           shown j.checker j.checker.model v refl final (h.texts ++ (b ∷ bs) ∷ []) (more_unjudged h.texts j stop (b ∷ bs) is h.judged).checked
 
--- the same by the tests of the code
+-- the verdict after the last line, by the tests of the code
 
 some_tested : (n : ℕ) (t : Bool) → t ≡ (n == 0) → t ≡ false → 0 < n
 some_tested n t test e = let k = sym test ∙ e in grind (arith, nat_tests)

@@ -108,7 +108,7 @@ few_read texts c h next none =
 bare_read : (s : State) (line : List ℕ) → line_of s (line ++ 10 ∷ []) ≡ line_of_words s (words_of line)
 bare_read s line = ap (line_if s) (lf_again line)
 
--- with its LF
+-- a line with its LF is checked as what is kept of it
 pub line_for : (texts : List (List ℕ)) (old new : Checking) (kept line : List ℕ) → HasChecked texts old → old.reading.next ≤ 4000000000 →
     length old.model.cells ≤ 512 → IsKeptOf kept line → Takes old (kept ++ 10 ∷ []) new → Takes old (line ++ 10 ∷ []) new
 line_for texts old new kept line h next few (inl same) t = subst (λ (x : List ℕ). Takes old (x ++ 10 ∷ []) new) same t
@@ -122,7 +122,7 @@ line_for texts old new kept line h next few (inr k) t =
     (subst (λ (x : List ℕ). AreAlike (line_of_words s (words_of (kept ++ []))) (line_of_words s (words_of x))) (append-nil line)
     (k.alike [] s (few_read texts old h next none))))))
 
--- without one
+-- a last line without an LF is checked as what is kept of it
 pub last_for : (old new : Checking) (kept line : List ℕ) → length old.model.cells ≤ 512 → without_lf kept ≡ None → IsUnfinished line → Takes old kept new →
     Takes old line new
 last_for old new kept line few none free t =

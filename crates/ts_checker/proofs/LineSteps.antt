@@ -24,7 +24,7 @@ use Rattle.ts_checker.specs.declared.standing.Standing.{Standing}
 use Rattle.ts_checker.specs.Standings.{MayStep, MayTake, stand_of}
 use Rattle.ts_checker.specs.Subjects.{AreSized, series_of}
 
--- the rule of a tree line, where the aim, the claim and the first box are told
+-- the rule of a tree line, where the aim, the claim and the first box are known
 pub rule_told : (m : ModelParts) (s : Spans) (aim : Option Aim) (claim : Option Claim) (xs : List (List ℤ)) (boxes : List Box) (told : ℕ) (l : TreeLine)
     (a : Aim) (c : Claim) (b : Box) (t : Bool) → aim ≡ Some a → claim ≡ Some c → boxes ≡ b ∷ rest boxes →
     (IsTrue t ↔ KeepsRule m s (record { aim = a; claim = c; series = xs }) told b l) → IsTrue t ↔ KeepsTreeRule m s aim claim xs boxes told l
@@ -43,9 +43,6 @@ tree_answered m s aim claim items listed boxes told l a c b now (Ok t) is_aim is
     subst (λ xs. IsTrue t ↔ KeepsTreeRule m s aim claim (series_of xs) boxes told l) lent
     (rule_told m s aim claim (series_of listed) boxes told l a c b t is_aim is_claim (subst (λ w. w ≡ b ∷ rest w) same front) h)
 
--- where no box waits, or no aim or claim was told, no tree line keeps a rule
--- boxes of which none can be told to be first
--- what follows a tree line: the boxes that it makes in place of the first
 -- a line that keeps its rule on the present box may be followed there
 pub may_step : (t : Standing) (line : TreeLine) (b : Box) → IsTrue t.frontier.ready → t.frontier.boxes ≡ b ∷ rest t.frontier.boxes → MakesBoxes line b →
     (line ≡ Yes → t.told < length t.series.items) → MayStep t line
@@ -58,12 +55,12 @@ may_step t line b ready front may told =
       told = told;
     }
 
--- a `yes` that keeps its rule has a series to tell
+-- a `yes` that keeps its rule has a listed series
 pub yes_below : (m : ModelParts) (s : Spans) (h : Head) (told : ℕ) (b : Box) (l : TreeLine) → KeepsRule m s h told b l → l ≡ Yes → told < length h.series
 yes_below m s h told b l k is =
     let n = subst (λ z. KeepsRule m s h told b z) is k in slice_get_within h.series told n.series n.listed
 
--- so where its rule is kept, it may be followed
+-- where the rule of a tree line is kept, it may be followed
 pub tree_may : (m : ModelParts) (s : Spans) (a : Aim) (c : Claim) (listed : List (Vec ℤ)) (b : Box) (t : Standing) (l : TreeLine) (r : Result Bool Memory) →
     IsTrue t.frontier.ready → t.frontier.boxes ≡ b ∷ rest t.frontier.boxes → listed ≡ t.series.items →
     IfOk r (λ keeps. IsTrue keeps ↔ KeepsRule m s (record { aim = a; claim = c; series = series_of listed }) t.told b l) →

@@ -151,7 +151,7 @@ open_none : (f : List ℕ) (vs : List (List ℕ)) → open_word f vs ≡ None �
 open_none f [] h w = too_long f w.first w.more (nat_le (length f) 8) refl h
 open_none f (v ∷ vs) h w = none_by f v vs w (value_of f) refl (λ k. open_none v vs k w) h
 
--- zeros in their place
+-- zeros in place of the numbers
 
 series_words : (r : List ℕ) → words_of (codes "series " ++ r) ≡ words (codes "series") (all_words (words_of r))
 unfolding is_space
@@ -311,7 +311,7 @@ module _ (line : List ℕ) (long : 4615 < length line) where
   refused_by f (v ∷ vs) true is e none more s few =
       open_refused v vs (is ∙ ap (λ (x : List ℕ). words x (v ∷ vs)) ((bytes_eq-Decides f (codes "series")).0 e)) none more s
 
-  -- no line begins so
+  -- no line begins with the byte 63
   no_line : (more : List ℕ) (s : State) → line_of_words s (words_of (63 ∷ more)) ≡ Err Grammar
   unfolding is_space
   no_line more Start = refl

@@ -36,7 +36,7 @@ some_at : (P : ℕ → Type 0) (o : Option ℕ) (t : ℕ) → IfSome o P → o �
 some_at P None t h e = absurd (let f : ◌≡◌ {A = Option ℕ} None (Some t) = e in cc)
 some_at P (Some u) t h e = subst P (same_Some u t e) h
 
--- they are the same machines once the tables are brought to another box
+-- the tables are those of the same machines once they are brought to another box
 pub brought : (m : ModelParts) (old new : List Automata) → new ≡ old → AreTables m old → AreTables m new
 brought m old new same is = record { machines = same ∙ is.machines; whole = is.whole }
 
@@ -44,7 +44,7 @@ module _ (m : ModelParts) (tables : List Automata) (is : AreTables m tables) whe
   tables_count : length tables ≡ length m.terms
   tables_count = ap length is.machines ∙ length-map m.terms (λ t. automata_for t.1)
 
-  -- the window of each ends at a cell of each box that has the model's cells
+  -- the window of each machine ends at a cell of each box that has the model's cells
   pub all_look : (b : Box) → length b ≡ length m.cells → AllByRecursion (λ a. LooksIn a b) tables
   all_look b size =
       subst (AllByRecursion (λ a. LooksIn a b)) (sym is.machines)
@@ -54,7 +54,7 @@ module _ (m : ModelParts) (tables : List Automata) (is : AreTables m tables) whe
   box_looks b size term a has =
       subst (λ n. LooksInside n a.window) (sym size) (window_looks m is.whole term a (ap (λ l. slice_get l term) (sym is.machines) ∙ has))
 
-  -- each requirement's term has one, and so has the objective
+  -- each requirement's term has a machine, and so has the objective
   require_stands : (j : ℕ) (r : Require) → IsRequirement m.requirements j r → r.term < length tables
   require_stands j r h =
       let below = each_at (λ q. q.term < length m.terms) m.requirements (j - 1) r is.whole.requirements h.1 in
@@ -94,7 +94,7 @@ module _ (m : ModelParts) (machines : List Automata) (goal : Goal) (bar : Ext) (
       let same = (calls_tell m m.requirements machines term a has).cut goal p b (Better bar) is u in
       (λ k. same.0 (told.0 k), λ c. told.1 (same.1 c))
 
--- the head tells whether there is a bar and a goal
+-- the head decides whether there is a bar and a goal
 pub worse_when : (m : ModelParts) (s : Spans) (h : Head) (goal : Goal) (bar : Ext) (p : ℕ) (b : Box) (t : Bool) → h.aim ≡ BestOf goal →
     claimed_value h.claim ≡ Some bar → (IsTrue t ↔ IsCut m s goal p b (Better bar)) → IsTrue t ↔ MayBeWorse m s h p b
 worse_when m s h goal bar p b t aim claim told =
@@ -148,7 +148,7 @@ module _ (m : ModelParts) (tables : List Automata) (is : AreTables m tables) (b 
       drop_told m (automata_in m) j r require at.0 at.2 k v b t (others_seen d k b v v' here same others) ((usable at.0 at.1).0 able)
       (subst (λ z. IsTrue t ↔ Refutes r.op r.bound (term_span at.0 k (only k z b))) same (h at.0 at.1))
 
-  -- nor where the cell can't be used
+  -- there is no drop where the cell can't be used
   pub drop_unusable : (k : ℕ) (v : ℤ) (j : ℕ) (r : Require) (rs : List Require) (u : Bool) → rs ≡ m.requirements → IsRequirement rs j r → u ≡ false →
       OfTerm tables r.term (λ a. IsTrue u ↔ IsUsableOf a k b) → IsTrue false ↔ IsDrop m.requirements (spans_in m) k v j b
   drop_unusable k v j r rs u all req unable usable = (
@@ -189,7 +189,7 @@ pub drop_may : (k : ℕ) (v v' : ℤ) (b : Box) (d : List ℤ) (t : Result Bool 
 drop_may k v v' b d (Err e) same i cell here others = tt
 drop_may k v v' b d (Ok t) same i cell here others = λ _. drop_follows k v b i cell (others_seen d k b v v' here same others)
 
--- the line is told
+-- what the code answers of a line is right of the line that it matched
 pub line_answered : (m : ModelParts) (s : Spans) (h : Head) (told : ℕ) (b : Box) (l k : TreeLine) (t : Result Bool Memory) → l ≡ k →
     IfOk t (λ keeps. IsTrue keeps ↔ KeepsRule m s h told b k) → IfOk t (λ keeps. IsTrue keeps ↔ KeepsRule m s h told b l)
 line_answered m s h told b l k t is f = subst (λ z. IfOk t (λ keeps. IsTrue keeps ↔ KeepsRule m s h told b z)) (sym is) f

@@ -98,7 +98,7 @@ still_stopped texts text old new model failed s = record {
   failed = failed ∙ s.failed;
 }
 
--- what is left to show of one more line, once the model and the reading are told
+-- what is left to show of one more line, once the model and the reading are known
 record IsRest (texts : List (List ℕ)) (c : Checking) : Type 0 where
   going : c.reading.stop ≡ None → IsGoing texts c
   stopped : c.reading.stop ≢ None → IsStopped texts c
@@ -137,7 +137,7 @@ module _ (texts : List (List ℕ)) (text : List ℕ) (old new : Checking) (h : H
       over (inr some) stop taken =
           empty_on old.model (spans_in old.model) old.stand new.stand old.failed new.failed old.reading.next l (λ k. h.emptied (inr k)) taken some
 
-  -- the reader stops there
+  -- the reader stops at the line
   stops : (stop : CertStop) → answer_to old.reading text ≡ Err stop → old.reading.stop ≡ None → new.reading.stop ≡ Some stop → IsRest longer new
   stops stop answer none held =
       let taken : TakesBy old.model (spans_in old.model) old.stand old.failed old.reading.next (Err stop) new.stand new.failed =
@@ -161,7 +161,7 @@ module _ (texts : List (List ℕ)) (text : List ℕ) (old new : Checking) (h : H
         emptied = λ o. taken.0;
       }
 
-  -- it has stopped before
+  -- the reader has stopped before the line
   stays : (stop : CertStop) → answer_to old.reading text ≡ Err stop → old.reading.stop ≡ Some stop → new.reading.stop ≡ Some stop → IsRest longer new
   stays stop answer was held =
       let taken : TakesBy old.model (spans_in old.model) old.stand old.failed old.reading.next (Err stop) new.stand new.failed =
@@ -337,7 +337,7 @@ pub verdict_given : (texts : List (List ℕ)) (c : Checking) (v : Verdict) → v
 verdict_given texts c v is h =
     subst (λ z. IsVerdict c.model texts z) (sym is) (verdict_is texts c (end_stop c.reading) c.failed h refl refl)
 
--- and what is accepted is true
+-- what is accepted is true
 pub accepted_true : (m : ModelParts) (texts : List (List ℕ)) (v : Verdict) → IsWhole m → IsBox m.cells → v ≡ Accepted → IsVerdict m texts v → IsTrueOf m texts
 accepted_true m texts v whole box is h =
     let a = subst (λ z. IsVerdict m texts z) is h in (a.0, a.1, accepted_is_true m a.0 whole box a.2)
@@ -383,7 +383,7 @@ module _ (texts : List (List ℕ)) (short : length texts < 2 ^ 62) where
       ap (λ ts. end_stop (reading_after fresh ts)) a.are ∙ ap end_stop read.0
       ∙ ap (λ (s : State). end_stop (at_line s (1 + length (cert_lines c)))) runs.1
 
-  -- the lines of a certificate so far are read so
+  -- the lines of a certificate so far are read as they are
   read_lines : (lines : List CertLine) → texts ≡ map line_text lines → MayFollow Start lines →
       reading_after fresh texts ≡ at_line (state_after Start lines) (1 + length lines)
   read_lines lines are follow =
@@ -398,7 +398,7 @@ module _ (texts : List (List ℕ)) (short : length texts < 2 ^ 62) where
   not_against lines n are follow a =
       let wrong : ◌≡◌ {A = Option CertStop} None (Some a.stop) = sym (ap (λ (r : Reading). r.stop) (read_lines lines are follow)) ∙ stopped_at n a in cc
 
-  -- what the reading tells of the line that is refused
+  -- what the reading shows of the line that is refused
   record IsTold (n : ℕ) : Type 0 where
     stop : CertStop
     is : end_stop (reading_after fresh texts) ≡ Some stop

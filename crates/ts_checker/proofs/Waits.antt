@@ -48,7 +48,7 @@ lines_count m s t (SaysTree l ∷ ls) u h =
     omega (arith, rest, one)
 lines_count m s t (SaysEnd checked unsearched ∷ ls) u h = lines_count m s t ls u h.1
 
--- what is known of the lines tells how many boxes wait
+-- how many boxes wait, by what is known of the lines
 
 module _ (texts : List (List ℕ)) (c : Checking) (box : IsBox c.model.cells) (h : HasChecked texts c) where
   going : (g : IsGoing texts c) → c.failed ≡ None → length c.stand.waiting + ends g.are.lines ≡ 1 + splits g.are.lines

@@ -14,7 +14,7 @@ pub record IsFed (text rest : List ℕ) (m : ModelParts) (c : Checking) : Type 0
   pub model : c.model ≡ m
   pub few : c.reading.next + length rest ≤ 1 + length text
 
--- one more is fed
+-- one more line is fed
 pub fed_more : (text rest line left : List ℕ) (m : ModelParts) (old new : Checking) → IsFed text rest m old → strict_lines rest ≡ line ∷ strict_lines left →
     rest ≡ line ++ left → 0 < length line → Checks old line new → new.model ≡ old.model → new.reading.next ≤ old.reading.next + 1 → IsFed text left m new
 fed_more text rest line left m old new f cut parts some checks same next = record {
@@ -28,7 +28,7 @@ fed_more text rest line left m old new f cut parts some checks same next = recor
     shorter : (rest line left : List ℕ) → rest ≡ line ++ left → length rest ≡ length line + length left
     shorter rest line left e = ap length e ∙ length-append line left
 
--- all are fed
+-- all lines are fed
 pub fed_all : (text rest : List ℕ) (m : ModelParts) (c : Checking) → IsFed text rest m c → length rest ≡ 0 → HasChecked (strict_lines text) c
 fed_all text rest m c f none =
     let left = nil_from_length rest none in

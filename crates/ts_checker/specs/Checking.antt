@@ -1,4 +1,4 @@
--- What a checker knows of a certificate after so many of its lines, and what one more makes of that.
+-- What a checker knows of a certificate after some of its lines, and what one more makes of that.
 use Rattle.std.specs.Prelude.{◌≡◌, ◌≢◌, ◌⊎◌, ℕ, ◌≤◌, Bool, false, List, [], ◌∷◌, ◌++◌, Option, Some, None, Result, Ok, Err}
 use Rattle.ts_base.specs.Limits.{too_many}
 use Rattle.ts_certificate.specs.declared.state.State.TheVariants.{Start}
@@ -20,7 +20,7 @@ pub record Checking : Type 0 where
   pub failed : Option ℕ
   pub missing : Bool
 
--- before the first line
+-- a checker before the first line
 abbrev pub first_checking : ModelParts → Checking
 first_checking m = record { model = m; reading = fresh; stand = first_stand m; failed = None; missing = false }
 
@@ -40,7 +40,7 @@ abbrev pub TakesBy : ModelParts → Spans → Stand → Option ℕ → ℕ → R
 TakesBy m s old before n (Ok l) new failed = TakesOn m s old before n l new failed
 TakesBy m s old before n (Err stop) new failed = (new.waiting ≡ []) × (failed ≡ before)
 
--- one line more
+-- a checker takes one line more
 pub record Takes (old : Checking) (text : List ℕ) (new : Checking) : Type 0 where
   pub model : new.model ≡ old.model
   pub reading : new.reading ≡ reading_with old.reading text
@@ -48,7 +48,7 @@ pub record Takes (old : Checking) (text : List ℕ) (new : Checking) : Type 0 wh
       new.stand new.failed
   pub calm : new.missing ≡ old.missing
 
--- the texts are those of lines that may follow one another, and this is known of them
+-- the texts are those of lines that may follow one another, and what is known of a checker is known of these
 pub record IsGoing (texts : List (List ℕ)) (c : Checking) : Type 0 where
   pub are : AreLines Start 1 texts c.reading
   pub found : IsOutcome c.model (spans_in c.model) are.lines c.stand c.failed
@@ -80,6 +80,6 @@ pub record HasChecked (texts : List (List ℕ)) (c : Checking) : Type 0 where
   pub stopped : c.reading.stop ≢ None → IsStopped texts c
   pub emptied : IsOver c → c.stand.waiting ≡ []
 
--- whatever lines came before, this one has come too
+-- whatever lines came before, this line has come too
 abbrev pub Checks : Checking → List ℕ → Checking → Type 0
 Checks old text new = (texts : List (List ℕ)) → HasChecked texts old → HasChecked (texts ++ text ∷ []) new

@@ -23,7 +23,7 @@ pub record HasJudged (texts : List (List ℕ)) (j : AtWork) : Type 0 where
   pub checked : HasChecked texts j.checker
   pub few : length j.checker.model.cells ≤ most_cells
 
--- whatever lines came before, the one that what is kept stands for has come too, with its LF
+-- whatever lines came before, the line that the kept bytes stand for has come too, with its LF
 abbrev pub JudgesLine : AtWork → AtWork → Type 0
 JudgesLine old new =
     (texts : List (List ℕ)) (line : List ℕ) → HasJudged texts old → IsKeptOf old.line.bytes.items line →
@@ -48,7 +48,7 @@ pub record HasRead (bytes : List ℕ) (j : AtWork) : Type 0 where
   pub small : IsSmall j.line.bytes.items
   pub dropped : j.checker.reading.stop ≢ None → j.line.bytes.items ≡ []
 
--- whatever bytes of the certificate came before, these have come too
+-- whatever bytes of the certificate came before, these bytes have come too
 abbrev pub Reads : AtWork → List ℕ → AtWork → Type 0
 Reads old part new = (bytes : List ℕ) → HasRead bytes old → HasRead (bytes ++ part) new
 
@@ -76,7 +76,7 @@ abbrev pub IsCalm : OpenedModel → Type 0
 IsCalm (Refused line kind) = Unit {0}
 IsCalm (Judging j) = j.checker.missing ≡ false
 
--- so few bytes of the certificate came that as many more may come
+-- so few bytes of the certificate came that this many more may come
 abbrev pub HasFew : OpenedModel → ℕ → Type 0
 HasFew (Refused line kind) more = Unit {0}
 HasFew (Judging j) more = (bytes : List ℕ) × HasRead bytes j × (length bytes + more < too_many)
@@ -86,7 +86,7 @@ abbrev pub IsGoing : OpenedModel → Type 0
 IsGoing (Refused line kind) = ⊥
 IsGoing (Judging j) = j.checker.reading.stop ≡ None
 
--- the first line that fails
+-- the first line of the certificate that fails
 abbrev pub OpenedFails : OpenedModel → Option ℕ → Type 0
 OpenedFails (Refused line kind) failed = failed ≡ None
 OpenedFails (Judging j) failed =
@@ -126,21 +126,21 @@ abbrev pub EndsIn : List ℕ → Input → Type 0
 EndsIn bytes (InModel t) = AtLine IsMark bytes t × (t.need ≡ Listed)
 EndsIn bytes (Behind opened) = IsBehind bytes opened
 
--- whatever came before, these bytes have come too
+-- whatever bytes came before, these bytes have come too
 abbrev pub TakesBytes : Input → List ℕ → Input → Type 0
 TakesBytes old piece new = (bytes : List ℕ) → HasTaken bytes old → HasTaken (bytes ++ piece) new
 
--- what contracts see
+-- what contracts see of a verifier
 pub record Verifying : Type 0 where
   pub input : Input
   pub count : ℕ
   pub missing : Bool
 
--- so few bytes were taken that as many more may come
+-- so few bytes were taken that this many more may come
 abbrev pub HasRoomFor : Input → ℕ → Type 0
 HasRoomFor input more = (bytes : List ℕ) × HasTaken bytes input × (length bytes + more < too_many)
 
--- unless memory was missing, so many bytes were taken
+-- unless memory was missing, `count` bytes were taken
 abbrev pub IsReady : Bool → ℕ → Input → Type 0
 IsReady missing count input = missing ≡ false → (bytes : List ℕ) × HasTaken bytes input × (length bytes ≡ count)
 

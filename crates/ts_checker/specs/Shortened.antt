@@ -21,7 +21,7 @@ pub record AreLong (kept line : Result CertLine LineStop) : Type 0 where
   pub kept_long : most_cells < length few
   pub line_long : most_cells < length all
 
--- both are against the grammar, or such series
+-- both are against the grammar, or series of more numbers than a model has cells
 abbrev pub AreAlike : Result CertLine LineStop → Result CertLine LineStop → Type 0
 AreAlike kept line = ((kept ≡ Err Grammar) × (line ≡ Err Grammar)) ⊎ AreLong kept line
 
@@ -30,7 +30,7 @@ abbrev pub ReadAlike : List ℕ → List ℕ → Type 0
 ReadAlike kept line =
     (s : State) → tree_lines s < 2 ^ 63 → AreAlike (line_of_words s (words_of kept)) (line_of_words s (words_of line))
 
--- whatever follows both, they are judged alike
+-- whatever follows both of them, the line and the kept bytes are judged alike
 pub record Shortens (line kept : List ℕ) : Type 0 where
   pub some : 0 < length line
   pub left : 0 < length kept
@@ -44,7 +44,7 @@ IsKeptOf kept line = (kept ≡ line) ⊎ Shortens line kept
 abbrev pub IsSmall : List ℕ → Type 0
 IsSmall kept = length kept ≤ 4615
 
--- more bytes of the line
+-- what is kept of a line, once more bytes of the line have come
 abbrev pub Extends : List ℕ → List ℕ → List ℕ → Type 0
 Extends old part new = (line : List ℕ) → IsKeptOf old line → IsKeptOf new (line ++ part)
 
@@ -61,11 +61,11 @@ open_behind (w ∷ ws) = open_word w ws
 abbrev pub open_number : Words → Option (List ℕ)
 open_number w = if bytes_eq w.first (codes "series") then open_behind w.more else None
 
--- the number 0 so many times, each before a space
+-- the number 0 n times, each before a space
 abbrev pub zeros : ℕ → List ℕ
 zeros zero = []
 zeros (suc n) = 48 ∷ 32 ∷ zeros n
 
--- the beginning of a series line of so many numbers
+-- the beginning of a series line of n numbers
 abbrev pub series_of_zeros : ℕ → List ℕ
 series_of_zeros n = codes "series " ++ zeros n

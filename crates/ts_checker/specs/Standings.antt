@@ -21,7 +21,7 @@ stand_of t = record {
   told = t.told;
 }
 
--- nothing waits any more
+-- where lines have led, with no box that waits any more
 abbrev pub without_boxes : Stand → Stand
 without_boxes t = record t { waiting = [] }
 

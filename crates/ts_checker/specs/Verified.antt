@@ -31,7 +31,7 @@ rest_part bytes = unwrap_or (halves_of bytes).rest []
 abbrev pub certificate_lines : List ℕ → List (List ℕ)
 certificate_lines bytes = strict_lines (rest_part bytes)
 
--- it is the verdict on these lines, and where they are accepted, their claim is true of the model
+-- the verdict is that on these lines, and where they are accepted, their claim is true of the model
 pub record IsShownBy (texts : List (List ℕ)) (m : ModelParts) (verdict : Verdict) : Type 0 where
   pub is : IsVerdict m texts verdict
   pub holds : verdict ≡ Accepted → IsTrueOf m texts

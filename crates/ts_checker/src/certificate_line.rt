@@ -28,7 +28,7 @@ pub(crate) struct CertificateLine {
 }
 
 impl CertificateLine {
-    /// Before the first byte.
+    /// A line before its first byte.
     pub(crate) fn new(alloc: Global) -> CertificateLine
         ensures { result.bytes.items ≡ [] }
     {
@@ -138,7 +138,7 @@ fn open_word<'a>(line: &'a [u8]) -> Option<&'a [u8]>
     }
 }
 
-/// The word is a number that a cell may have.
+/// Whether the word is a number that a cell may have.
 fn is_value(word: &[u8]) -> bool
     ensures { result ≡ is_some (value_of word.now) }
 {

@@ -16,14 +16,14 @@ use ts_model::{ModelText, Need};
 /// What is kept of an input.
 #[derive(Drop)]
 pub(crate) enum Input {
-    /// Its model hasn't ended.
+    /// The model hasn't ended.
     InModel(ModelText),
     /// The part after the model.
     Behind(OpenedModel),
 }
 
 impl Input {
-    /// Before the first byte.
+    /// An input before its first byte.
     pub(crate) fn new(alloc: Global) -> Input
         ensures { HasTaken [] result }
     {

@@ -27,7 +27,7 @@ pub(crate) struct Judging {
 }
 
 impl Judging {
-    /// Before the first byte of a certificate for this model.
+    /// A checker of certificates for this model, before the first byte of one.
     pub(crate) fn new(alloc: Global, model: Model) -> Result<Judging, Memory>
         requires whole { IsWhole (model_parts model) }
         requires limits { KeepsLimits Listed (model_parts model) }

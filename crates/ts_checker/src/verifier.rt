@@ -35,7 +35,7 @@ impl std::marker::Model for Verifier {
 }
 
 impl Verifier {
-    /// Before the first byte.
+    /// A verifier before the first byte of its input.
     pub fn new(alloc: Global) -> Verifier
         ensures fed { HasFed [] result }
         ensures calm { result.missing ≡ false }

@@ -9,14 +9,15 @@ mod rows;
 
 use rows::{PEAK, pieces, rows};
 
-/// A call, what a read gives at most and which read fails, the same of the sink's writes, and how it ends.
+/// A call, how much a read gives at most and which read fails, how much a write takes at most and which write fails,
+/// and how the call ends.
 #[derive(Clone, Copy)]
 struct Row {
     words: &'static str,
     input: &'static [u8],
-    /// No call is call 0.
+    /// Call 0 is no call.
     source: (usize, u64),
-    /// To finish is the call after the last write.
+    /// `finish` is the call after the last write.
     sink: (usize, u64),
     taken: &'static [u8],
     status: Status,
@@ -32,7 +33,7 @@ fn words_of(alloc: Global, words: &str) -> Result<Vec<String>, AllocError> {
     Ok(all)
 }
 
-/// Whether the call ends so, where a read gives at most so many bytes.
+/// Whether the call ends as the row says, where a read gives at most `step` bytes.
 fn ends_so(alloc: Global, row: &Row, step: usize) -> Result<bool, AllocError> {
     let words = words_of(alloc, row.words)?;
     let bytes = Vec::from_slice(alloc, row.input)?;
@@ -92,7 +93,7 @@ fn each_call_fails(rt: HostRuntime) -> Result<(), AllocError> {
     Ok(())
 }
 
-/// Wherever the input is cut.
+/// The answers are the same wherever the input is cut.
 #[test]
 fn input_in_pieces(rt: HostRuntime) -> Result<(), AllocError> {
     for (place, row) in pieces().iter().enumerate() {

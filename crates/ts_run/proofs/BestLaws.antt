@@ -1,4 +1,4 @@
--- The certificates of `maximise`, `minimise` and `generate`: there is one, and what is said by it.
+-- The certificates of `maximise`, `minimise` and `generate`: there is one, and what it says.
 use Rattle.std.proofs.Common.{◌≡◌, ℕ, ◌<◌, ◌≤◌, ℤ, Bool, true, false, cond, Ok, Err, List, length, refl, sym, ◌∙◌, ap, subst}
 use Rattle.std.specs.Prelude.{◌==◌, Result}
 use Rattle.ts_base.specs.declared.goal.Goal.{Goal}

@@ -121,7 +121,7 @@ module _ (m : ModelParts) (goal : Goal) (budget : ℕ) (whole : IsWhole m) (box 
   best_claim : is_claim c.aim c.claim ≡ true
   best_claim = ap (λ a. is_claim a c.claim) h.aim ∙ by_claim c.claim refl
 
--- so many series may be asked for, and listed
+-- a count of series that may be asked for is in the grammar, and so is one that may be listed
 asked_aim : (count : ℕ) → IsWithin 1 most_listed count → is_aim (ListOf count) ≡ true
 asked_aim count h = and_from (nat_le 1 count) (nat_le count most_listed) (le-leb 1 count h.0) (le-leb count most_listed h.1)
 

@@ -31,7 +31,7 @@ line_taken names values k name value text more all n v p q =
     ∙ ap (λ z. text ++ value_lines (zip z (drop k values))) (sym (drop_at names k name n))
     ∙ p
 
--- and all are, where no value is left
+-- all value lines are written where no value is left
 none_left : (names : List (List ℕ)) → value_lines (zip names []) ≡ []
 none_left [] = refl
 none_left (n ∷ ns) = refl

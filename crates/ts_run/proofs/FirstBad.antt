@@ -37,7 +37,7 @@ one_of_line line = go (is_text line)
     go true = one_of_words (words_of line)
     go false = tt
 
--- how lines are read after so many readings, the first of them with this number: up to the first bad one, or all
+-- how lines are read after `count` readings, the first of them with this number: up to the first bad one, or all
 
 record EndsAtBad (count number : ℕ) (lines : List (List ℕ)) : Type 0 where
   place : ℕ
@@ -64,7 +64,7 @@ module _ (count number : ℕ) (line : List ℕ) (lines : List (List ℕ)) where
     reads = is ∙ ap (λ (n : ℕ). record { values = []; bad = Some n }) (omega arith);
   })
 
-  -- it is good, and gives these readings
+  -- the first line is good, and gives these readings
   module _ (values : List ℤ) (gives : line_gives line ≡ Some values) (good : IsBadBehind count (Some values) → ⊥)
       (is : readings_from count number (line ∷ lines) ≡ after_values values (readings_from (count + length values) (number + 1) lines)) where
     with_line : (ls : List (List ℕ)) → readings_in (line ∷ ls) ≡ values ++ readings_in ls

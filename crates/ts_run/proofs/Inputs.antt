@@ -44,7 +44,7 @@ halves_within (c ∷ cs) = cut_here (is_separator c) c cs (halves cs) (halves_wi
 pub parts_within : (text : List ℕ) → AreWithin (length text) (halves_of text)
 parts_within text = subst (λ (bytes : List ℕ). AreWithin (length bytes) (halves_of text)) (lines_are text) (halves_within (strict_lines text))
 
--- so either part of a short input is short
+-- either part of a short input is short
 pub model_short : (bytes model : List ℕ) → length model ≡ length (halves_of bytes).model → length bytes < too_many → length model < too_many
 model_short bytes model same few = let within = (parts_within bytes).model in omega (arith, within, same, few)
 

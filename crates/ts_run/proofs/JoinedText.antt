@@ -208,7 +208,7 @@ mark_no_lf = refl
 mark_first : (text : List ℕ) → strict_lines (codes "%%\n" ++ text) ≡ codes "%%\n" ∷ strict_lines text
 mark_first text = line_first (37 ∷ 37 ∷ []) text mark_no_lf
 
--- It has the same lines, where each of them is text: a CR at the end isn't.
+-- A text with the LF that it may lack has the same lines, where each of them is text: a CR at the end isn't.
 
 abbrev AreText : List (List ℕ) → Type 0
 AreText ls = AllByRecursion (λ line. is_text line ≡ true) ls
@@ -373,7 +373,7 @@ module _ (need : Need) (lists : needs_lists need ≡ true) (bytes : List ℕ) (m
   separators =
       no_separators (strict_lines (end_line bytes)) (subst NoMarks (sym (lines_ended bytes well.text) ∙ lines_each (end_line bytes)) well.marks)
 
-  -- and the two are cut again
+  -- the model and the text after it are cut again
   pub joined_halves : (text : List ℕ) → halves_of (verify_input bytes text) ≡ record { model = end_line bytes; rest = Some text }
   joined_halves text =
       ap halves (lines_joined bytes (codes "%%\n" ++ text) ∙ ap (λ (z : List (List ℕ)). strict_lines (end_line bytes) ++ z) (mark_first text))

@@ -1,4 +1,4 @@
--- The reply of `mark`: there is one, and it tells the occurrences where nothing is refused.
+-- The reply of `mark`: there is one, and it reports the occurrences where nothing is refused.
 use Rattle.std.proofs.Common.{◌≡◌, ℕ, inl, inr, refl, Ok, Err, List, sym, ◌∙◌, ap, subst}
 use Rattle.std.specs.Prelude.{Result, ℤ}
 use Rattle.ts_base.specs.declared.letter.Letter.{Letter}
@@ -50,7 +50,7 @@ one_mark_reply bytes r s h k = one_pattern_reply (pattern_reading (model_part by
 -- what is said of an input
 
 module _ (bytes : List ℕ) (r : Reply) (h : MarkReply bytes r) where
-  -- of one whose pattern was read so
+  -- what is said of an input, by how its pattern was read
   read_as : (reading : Result Described (ℕ × UserKind)) → pattern_reading (model_part bytes) ≡ reading → OnPattern reading (PlannedReply (rest_part bytes)) r
   read_as reading e = subst (λ (x : Result Described (ℕ × UserKind)). OnPattern x (PlannedReply (rest_part bytes)) r) e h
 

@@ -42,7 +42,7 @@ pattern_refusal : (reading : Result Described (ℕ × UserKind)) (next : Describ
 pattern_refusal (Ok d) next r h = absurd h
 pattern_refusal (Err bad) next r h = h
 
--- it is refused
+-- the pattern is refused
 pub pattern_fails : (bytes text : List ℕ) (stop : Stop) (given : Result GivenReply Stop) → text ≡ model_part bytes →
     StopsWith (OnPattern (pattern_reading text) NoMore) stop → IsErrAnd given (λ e. e ≡ stop) → Gives (MarkReply bytes) given
 pattern_fails bytes text stop given same h e =
@@ -58,7 +58,7 @@ gives_next : (Is Js : Reply → Type 0) → ((r : Reply) → Is r → Js r) → 
 gives_next Is Js f (Ok r) h = (f (reply_of r) h.0, h.1)
 gives_next Is Js f (Err stop) h = stops_on Is Js f stop h
 
--- it was read, and this is a reply to it
+-- the pattern was read, and this is a reply to it
 pub pattern_replies : (bytes text rest : List ℕ) (d : Described) (given : Result GivenReply Stop) → text ≡ model_part bytes → rest ≡ rest_part bytes →
     pattern_reading text ≡ Ok d → Gives (PlannedReply rest d) given → Gives (MarkReply bytes) given
 pattern_replies bytes text rest d given same behind read h =
@@ -101,7 +101,7 @@ series_fails text d stop given planned h e =
 abbrev done_with : List ℕ → Reply
 done_with text = record { text = text; status = Done }
 
--- it was read, and its occurrences are told
+-- the series was read, and its occurrences are reported
 pub marked : (text : List ℕ) (d : Described) (p : Pattern) (a cells : ℕ) (xs : List ℤ) (ranges : List Range) (told : List ℕ) → IsPlanned d → IsPatternOf d p →
     a ≡ p.a → cells ≡ length xs → any_series_reading (cut_of text) ≡ Ok xs → ranges ≡ occurrence_ranges (shape_of p.regex) p.b a (signature_of xs) →
     told ≡ marks_text cells ranges → PlannedReply text d (record { text = told; status = Done })

@@ -167,7 +167,7 @@ module _ (m : ModelParts) (bytes part : List ℕ) (old : ReadingsText) (h : AreR
   parts_more : bytes ++ part ≡ h.text ++ (h.line ++ part)
   parts_more = ap (λ (x : List ℕ). x ++ part) h.parts ∙ append_assoc h.text h.line part
 
-  -- without an LF
+  -- a part of a line without an LF
 
   module _ (new : ReadingsText) (lines : new.lines ≡ old.lines) (monitor : new.monitor ≡ old.monitor) (pushed : TakesIn old.line part new.line)
       (none : without_lf part ≡ None) (is : IsPart part) where
@@ -189,7 +189,7 @@ module _ (m : ModelParts) (bytes part : List ℕ) (old : ReadingsText) (h : AreR
       short = pushed h.line h.short;
     }
 
-  -- with its LF
+  -- a part of a line with its LF
 
   module _ (bare : List ℕ) (some : without_lf part ≡ Some bare) (is : IsPart part) where
     line_is : IsFinished (h.line ++ part)
@@ -287,7 +287,7 @@ module _ (m : ModelParts) (bytes part : List ℕ) (old mid new : ReadingsText) (
       let f = part_ends h.line part bare h.free some is in
       reads m h.text (h.line ++ part) h.values h.ended (one_line (h.line ++ part) f) (pushed h.line h.short) mid_taken
 
--- after a last line without an LF
+-- the line may end after a last line without an LF
 pub may_end_last : (m : ModelParts) (bytes : List ℕ) (old : ReadingsText) → AreReadings m bytes old → length bytes < too_many → MayRead old
 may_end_last m bytes old h few =
     let long = ap (λ (x : List ℕ). length x) h.parts ∙ length-append h.text h.line in
@@ -301,7 +301,7 @@ may_end_last m bytes old h few =
       few = omega (arith, long, few);
     }
 
--- the terms stay
+-- the terms of a monitor stay
 pub same_terms : (m : ModelParts) (old new : Watched) → new.terms ≡ old.terms → HasTerms m old → HasTerms m new
 same_terms m old new same h = record {
   values = subst (λ (ts : List Term). (xs : List ℤ) → map (λ t. term_value t xs) ts ≡ values_on m xs) (sym same) h.values;
@@ -335,7 +335,7 @@ module _ (m : ModelParts) (bytes : List ℕ) (old : ReadingsText) (h : AreReadin
     ap (values_reply m) e ∙ is ∙ ap (λ (d : Due). record { text = d.text ++ more; status = status }) (sym (due_is m bytes [] old h)),
   )
 
-  -- after a line with its LF
+  -- the input ends after a line with its LF
   pub ends_none : (before after : List ℕ) (count : ℕ) (status : Status) → ((l : List ℕ) → IsShort l old.line → l ≡ []) → count ≡ old.monitor.count →
       after ≡ before ++ (end_of count).text → status ≡ Done → AddsReply (readings_due m bytes) (readings_reply m bytes) before after status
   ends_none before after count status none counted put same =
@@ -350,7 +350,7 @@ module _ (m : ModelParts) (bytes : List ℕ) (old : ReadingsText) (h : AreReadin
     last_line_come ended reads =
         reads m h.text h.line h.values h.ended (unfinished_line h.line h.free (some h.line h.short)) h.short h.taken
 
-    -- after a last line without one, which is good
+    -- the input ends after a last line without an LF, which is good
     pub ends_good : (after : List ℕ) (count : ℕ) (status : Status) → ReadsLine old before mid None new → count ≡ new.monitor.count →
         after ≡ mid ++ (end_of count).text → status ≡ Done → AddsReply (readings_due m bytes) (readings_reply m bytes) before after status
     ends_good after count status reads counted put same =
@@ -365,7 +365,7 @@ module _ (m : ModelParts) (bytes : List ℕ) (old : ReadingsText) (h : AreReadin
         (ap (λ (t : List ℕ). t ++ (end_of count).text) (more_values m [] h.values e.0)
         ∙ append_assoc (values_lines m [] h.values) (values_lines m h.values e.0) (end_of count).text))
 
-    -- or bad
+    -- the input ends after a last line without an LF, which is bad
     pub ends_bad : (status : Status) → ReadsLine old before mid (Some status) new → AddsReply (readings_due m bytes) (readings_reply m bytes) before mid status
     ends_bad status reads =
         let e = last_line_come (Some status) reads in
@@ -414,7 +414,7 @@ first_readings model r few windowless none stands terms short = record {
   short = short;
 }
 
--- by the tests of the code
+-- the end of the input, by the tests of the code
 
 pub on_ok_of : {A E : Type 0} (r : Result A E) (P : A → Type 0) (Q : Type 0) → ((a : A) → P a → Q) → IfOk r P → OnOk r Q
 on_ok_of (Ok a) P Q f h = f a h

@@ -17,7 +17,7 @@ number_written values old text count n put same =
     ap (λ (t : List ℕ). t ++ behind (map ext_text values)) (put ∙ ap (λ (k : ℕ). old ++ decimal k) same)
     ∙ append_assoc old (decimal n) (behind (map ext_text values))
 
--- one more of the values is
+-- one more of the values is written
 pub value_written : (values : List Ext) (k : ℕ) (value : Ext) (text more all : List ℕ) → slice_get values k ≡ Some value →
     text ++ behind (map ext_text (drop k values)) ≡ all → more ≡ text ++ 32 ∷ ext_text value →
     more ++ behind (map ext_text (drop (k + 1) values)) ≡ all
@@ -33,7 +33,7 @@ few_values f terms values k is few =
     let same = ap (λ (vs : List Ext). length vs) is in
     omega (arith, count, same, few)
 
--- all are, and the line's end
+-- all values are written, and the line's end
 pub line_written : (values : List Ext) (k : ℕ) (old text more row : List ℕ) → length values ≤ k → text ++ behind (map ext_text (drop k values)) ≡ old ++ row →
     more ≡ text ++ 10 ∷ [] → more ≡ old ++ (row ++ 10 ∷ [])
 line_written values k old text more row all so_far put =

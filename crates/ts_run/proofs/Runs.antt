@@ -47,7 +47,7 @@ module _ (before after : Option (List ℕ)) (status : Status) where
         WholeEnds limit Js left faults faults_now before after status
     whole_as left h = record { reply = of_bytes left h.reply; fault = h.fault }
 
--- the same of a stream
+-- what holds of a reply to a stream holds of the one that was given
 
 module _ (limit : ℕ) (Is Js : List ℕ → Reply → Type 0) (due : List ℕ → Due) (f : (bytes : List ℕ) (r : Reply) → length bytes ≤ limit → Is bytes r → Js bytes r)
     (before after : Option (List ℕ)) (status : Status) where
@@ -105,7 +105,7 @@ is_watch (Sample cells) limit e = cc
 is_watch Mark limit e = cc
 is_watch Watch limit e = refl
 
--- so what it owes and replies is what the command does
+-- what `watch` owes and replies is what the command does
 
 module _ (limit : ℕ) (left left_now : Option (List ℕ)) (faults faults_now : ℕ) (before after : Option (List ℕ)) (status : Status) where
   pub watch_ends : (command : Command) → command ≡ Watch →
@@ -200,7 +200,7 @@ module _ {S K : Type 0} (s : SourceTells S) (k : SinkTells K) (given : Option Co
           spares = spared Nothing input spares;
         }
 
--- over a source and a sink that never fail
+-- a call over a source and a sink that never fail
 
 never_rose : Rose 0 0 → ⊥
 never_rose (inl h) = omega (arith, h)

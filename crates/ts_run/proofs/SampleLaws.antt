@@ -65,7 +65,7 @@ module _ (n : ℕ) (asked : IsWithin 1 most_cells n) where
     is_sent : IsSent c
     is_sent = best_sent m Minimise usual_lines c (sample_whole n asked) (sample_limits n asked) (omega arith, omega arith) solved
 
-    -- its text is short, and is accepted
+    -- the text of the certificate is short, and is accepted
 
     pub text_short : length (certificate_text c) < too_many
     text_short = let fits = text_fits c 0 is_sent.within (omega arith) in omega (arith, fits)

@@ -24,7 +24,7 @@ use Rattle.ts_run.specs.SampleModel.{cells_from, least_of, sample_stated, six_fr
 use Rattle.ts_run.proofs.SampleModelLaws.{cells_count, least_small, low_within, six_at}
 use Rattle.ts_run.proofs.ValueSizes.{answers}
 
--- so many cells from cell k on, each at its least value
+-- n cells from cell k on, each at its least value
 abbrev pub least_from : ℕ → ℕ → List ℤ
 least_from k zero = []
 least_from k (suc n) = pos (least_of k) ∷ least_from (k + 1) n
@@ -54,7 +54,7 @@ least_taken (suc j) k (suc n) h = ap (λ (z : List ℤ). pos (least_of k) ∷ z)
 abbrev widest : Body
 widest = decorated_body (seed_table Peak).rows (pattern_a Peak) Max Width
 
--- its answer is at most 3, after a series and each front of it
+-- the automaton's answer is at most 3, after a series and each front of it
 abbrev is_narrow : Standing Ext → Bool
 is_narrow s = ext_le (finish_of widest s 1) (Int (pos 3))
 
@@ -69,7 +69,7 @@ narrow_front (y ∷ ys) zero x s h = (and_parts (is_narrow s) (stays_narrow (ste
 narrow_front (y ∷ ys) (suc j) x s h =
     narrow_front ys j y (step_of widest s x y) (and_parts (is_narrow s) (stays_narrow (step_of widest s x y) y ys) h).1
 
--- 512 cells
+-- with 512 cells the automaton's answer stays at most 3
 all_narrow : stays_narrow (start_of widest) (pos (least_of 1)) (least_from 2 511) ≡ true
 all_narrow = refl
 

@@ -171,7 +171,7 @@ six_made l lows highs d lows_are highs_are domain union =
 pub low_within : (l : ℕ) → l ≤ 14 → IsCellValue (pos l)
 low_within l h = (omega (arith, ints), omega (arith, ints, h))
 
--- its least and its greatest value, as the code has them
+-- the least and the greatest of six values, as the code has them
 
 pub low_is : (l : ℕ) (low : ℤ) → low ≡ pos l → l ≤ 9 → to_z w64 (of_z w64 low) ≡ pos l
 low_is l low e h =
@@ -192,7 +192,7 @@ cells_more k (suc n) =
     ap (λ (z : List (List ℤ)). six_from (least_of k) ∷ z)
     (ap (λ (i : ℕ). cells_from (k + 1) n ++ six_from (least_of i) ∷ []) (let e : k + suc n ≡ (k + 1) + n = omega arith in e) ∙ cells_more (k + 1) n)
 
--- one more, the cell at this place
+-- one more cell, the one at this place
 pub cell_pushed : (k : ℕ) (old new : List (List ℤ)) (d : List ℤ) → old ≡ cells_from 1 k → new ≡ old ++ d ∷ [] → d ≡ six_from (7 * (k + 1) % 10) →
     new ≡ cells_from 1 (k + 1)
 cell_pushed k old new d so_far pushed values =

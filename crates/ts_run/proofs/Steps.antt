@@ -13,7 +13,7 @@ use Rattle.ts_run.specs.declared.reply.Reply.{Reply as GivenReply}
 use Rattle.ts_run.specs.declared.reply.Stop.{Stop}
 use Rattle.ts_run.specs.declared.reply.Stop.TheVariants.{Refused, Memory}
 
--- what is so of the refusal of a step
+-- what holds of the refusal of a step
 pub stops_on : (Is Js : Reply → Type 0) → ((r : Reply) → Is r → Js r) → (stop : Stop) → StopsWith Is stop → StopsWith Js stop
 stops_on Is Js f (Refused r) h = (f (reply_of r) h.0, h.1)
 stops_on Is Js f Memory h = tt

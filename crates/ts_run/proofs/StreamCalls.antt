@@ -14,7 +14,7 @@ use Rattle.ts_run.specs.declared.status.Status.{Status}
 use Rattle.ts_run.specs.declared.status.Status.TheVariants.{Done, No, Refused, Budget, ReadFault, WriteFault, Memory}
 use Rattle.ts_run.proofs.StreamLaws.{ends_behind, given_is, given_reply, stop_given}
 
--- these bytes came of the source and were taken, and so many more may come; what they owe was written
+-- these bytes came of the source and were taken, and `spare` more may come; what they owe was written
 pub record Going {T : Type 0} (Came : List ℕ → T → Type 0) (due : List ℕ → Due) (limit spare : ℕ) (left left_now before now : Option (List ℕ)) (live : T) :
     Type 0 where
   pub bytes : List ℕ

@@ -111,7 +111,7 @@ module _ (due : List ℕ → Due) (reply : List ℕ → Reply) (stream : IsStrea
         (front_on (due p).text (due (p ++ take (limit - length p) z)).text _ (stream.grows p (take (limit - length p) z))
         (over_front (due (p ++ take (limit - length p) z)).ended))
 
-    -- what they owe begins the reply
+    -- what bytes within the limit owe begins the reply
     pub owed_first : IsFront (due p).text (given_reply limit (p ++ z)).text
     owed_first = given_front (nat_lt limit (length (p ++ z)))
 
@@ -130,7 +130,7 @@ module _ (due : List ℕ → Due) (reply : List ℕ → Reply) (stream : IsStrea
           (ap (λ (d : Due). d.ended) (stream.over p (take (limit - length p) z) status ended) ∙ ended)
           ∙ closed_with (take (limit - length p) z)
 
-      -- where they have ended the stream, it is the reply
+      -- where bytes within the limit have ended the stream, what they owe is the reply
       pub owed_all : given_reply limit (p ++ z) ≡ record { text = (due p).text; status = status }
       owed_all = given_over (nat_lt limit (length (p ++ z)))
 

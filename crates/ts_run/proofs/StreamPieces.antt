@@ -60,7 +60,7 @@ module _ (due : List ℕ → Due) (bytes piece cleared text : List ℕ) (before 
     stops_ended given WriteFault ended h some = stops_write h
     stops_ended given Memory ended h some = absurd (some refl)
 
-  -- whole lines of it were put there
+  -- whole lines of what the piece adds were put after the text
 
   module _ (h : AddsLines due bytes piece cleared text) where
     same : text ≡ h.more

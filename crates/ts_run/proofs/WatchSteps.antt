@@ -64,7 +64,7 @@ module _ (m : ModelParts) (before after : List ℕ) (status : Status) where
   pub none_open : has_window m ≡ false → IsPut (end_of 0) before after status → IsPut (reply_on (Ok m) []) before after status
   none_open windowless put = subst is_put_by (sym windowless) put
 
--- after it
+-- after the model
 
 module _ (bytes : List ℕ) (r : ReadingsText) (h : IsBehindModel bytes r) where
   pub behind_due : watch_due bytes ≡ readings_due h.model h.rest
@@ -165,7 +165,7 @@ module _ (bytes : List ℕ) (need : Need) (is : need ≡ Values) where
         ap (λ (d : Due). d.ended) due,
       )
 
-  -- or a window in it is refused
+  -- a window in the model is refused
   pub window_owed : (model : Model) (before after : List ℕ) (status : Status) → EndsSo need bytes (Ok model) → has_window (model_parts model) ≡ true →
       IsPut refused_window before after status → IsOwed (watch_due bytes) before after (Some status)
   window_owed model before after status e windowed put =

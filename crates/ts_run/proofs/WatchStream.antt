@@ -91,7 +91,7 @@ record IsMarked (ls : List (List ℕ)) : Type 0 where
   each_rest : AllByRecursion IsFinished rest
   ends : (more : List (List ℕ)) → halves (front ++ more) ≡ record { model = model; rest = Some (concat more) }
 
--- none is
+-- no line is `%%`
 abbrev IsUnmarked : List (List ℕ) → Type 0
 IsUnmarked ls = (halves ls).rest ≡ None
 

@@ -34,10 +34,10 @@ pub record WritesOne (Is : Cert → Type 0) (r : Reply) : Type 0 where
   pub is : Is certificate
   pub written : IsWritten certificate r
 
--- the reply to a model: a certificate that is solved by at most so many lines
+-- the reply to a model is a certificate that is solved by at most this many lines
 abbrev pub IsBest : Goal → ℕ → ModelParts → Reply → Type 0
 IsBest goal lines m r = WritesOne (IsSolution m (spans_in m) goal lines) r
 
--- a certificate of a listing of up to so many series
+-- the reply to a model is a certificate of a listing of up to this many series, by at most this many lines
 abbrev pub IsListing : ℕ → ℕ → ModelParts → Reply → Type 0
 IsListing count lines m r = WritesOne (IsListAnswer m (spans_in m) count lines) r

@@ -27,7 +27,7 @@ budget_of (word ∷ []) = None
 budget_of (word ∷ number ∷ []) = if bytes_eq word (codes "--budget") then number_within 1 most_checked number else None
 budget_of (word ∷ number ∷ other ∷ words) = None
 
--- a number of series, and the budget
+-- `generate` with a number of series, and the budget
 abbrev pub generate_by : Option ℕ → Option ℕ → Option Command
 generate_by None budget = None
 generate_by (Some count) budget = option_map (λ lines. Generate count lines) budget
@@ -36,7 +36,7 @@ abbrev pub generate_of : List (List ℕ) → Option Command
 generate_of [] = None
 generate_of (number ∷ words) = generate_by (number_within 1 most_listed number) (budget_of words)
 
--- a number of cells
+-- `sample` with a number of cells
 abbrev pub sample_of : List (List ℕ) → Option Command
 sample_of [] = None
 sample_of (number ∷ []) = option_map (λ n. Sample n) (number_within 1 most_cells number)
@@ -57,7 +57,7 @@ command_of (word ∷ words) =
     else (if bytes_eq word (codes "watch") then if_alone Watch words
     else None))))))))
 
--- how a command takes its input: the whole, so many bytes at most; as a stream, so many at most; or nothing of it
+-- how a command takes its input: the whole, up to a limit; as a stream, up to a limit; or nothing of it
 abbrev pub input_of : Command → Input
 input_of Check = Whole most_check_bytes
 input_of Compile = Whole most_model_bytes
@@ -81,7 +81,7 @@ KeepsRanges (Generate count lines) = IsWithin 1 most_listed count × IsWithin 1 
 KeepsRanges (Sample cells) = IsWithin 1 most_cells cells
 KeepsRanges _ = Unit {0}
 
--- it replies to all its bytes at once: `verify` takes them piece by piece, and `watch` replies piece by piece
+-- a command replies to all its bytes at once: `verify` takes them piece by piece, and `watch` replies piece by piece
 abbrev pub RepliesAtOnce : Command → Type 0
 RepliesAtOnce Verify = ⊥
 RepliesAtOnce Watch = ⊥

@@ -31,8 +31,8 @@ abbrev pub OfBytes : Option (List ℕ) → (List ℕ → Type 0) → Type 0
 OfBytes None Is = (bytes : List ℕ) × Is bytes
 OfBytes (Some bytes) Is = Is bytes
 
--- a call that takes its whole input and replies so: what the source has left and its faults, what the sink took, and
--- the status
+-- a call that takes its whole input and gives such a reply: what the source has left and its faults, what the sink
+-- took, and the status
 pub record WholeEnds (limit : ℕ) (Is : List ℕ → Reply → Type 0) (left : Option (List ℕ)) (faults faults_after : ℕ)
     (before after : Option (List ℕ)) (status : Status) : Type 0 where
   pub reply : OfBytes left (λ bytes.
@@ -56,7 +56,7 @@ abbrev pub due_of : Command → List ℕ → Due
 due_of Watch bytes = watch_due bytes
 due_of _ bytes = nothing_due
 
--- how a call ends that takes its input so and replies so; of a stream, what is owed before its end is known
+-- how a call ends, by how its command takes its input; of a stream, what is owed before its end is known
 abbrev pub InputEnds : Input → (List ℕ → Reply → Type 0) → (List ℕ → Due) → Option (List ℕ) → Option (List ℕ) →
     ℕ → ℕ → Option (List ℕ) → Option (List ℕ) → Status → Type 0
 InputEnds (Whole limit) Is due left left_now faults faults_after before after status =
@@ -80,21 +80,21 @@ CallEnds (Some command) left left_now faults faults_after before after status =
     InputEnds (input_of command) (Headline command) (due_of command) left left_now faults faults_after before after
     status
 
--- what it has read; nothing where the words are no command's
+-- what a call has read of its source; nothing where its words are no command's
 abbrev pub CallTakes : Option Command → {S : Type 0} → (S → Option (List ℕ)) → S → S → Status → Type 0
 CallTakes None left old new status = new ≡ old
 CallTakes (Some command) left old new status = InputTakes (input_of command) left old new status
 
--- what a source tells: the bytes that it has left, its failed reads, whether one has broken it, and how often its end
--- was found
+-- what a source says of itself: the bytes that it has left, its failed reads, whether one has broken it, and how often
+-- its end was found
 pub record SourceTells (S : Type 0) : Type 0 where
   pub left : S → Option (List ℕ)
   pub faults : S → ℕ
   pub is_broken : S → Bool
   pub ends : S → ℕ
 
--- what a sink tells: the bytes that it has taken, its failed calls, whether one has broken it, whether it is finished,
--- and how often that was asked of it
+-- what a sink says of itself: the bytes that it has taken, its failed calls, whether one has broken it, whether it is
+-- finished, and how often that was asked of it
 pub record SinkTells (K : Type 0) : Type 0 where
   pub taken : K → Option (List ℕ)
   pub faults : K → ℕ
@@ -102,7 +102,7 @@ pub record SinkTells (K : Type 0) : Type 0 where
   pub is_finished : K → Bool
   pub finishes : K → ℕ
 
--- both by the members of a type that is a source, or a sink
+-- what a source and a sink say of themselves, by the members of their types
 abbrev pub source_tells : {S : Type 0} → (S → Option (List ℕ)) → (S → ℕ) → (S → Bool) → (S → ℕ) → SourceTells S
 source_tells left faults is_broken ends =
     record { left = left; faults = faults; is_broken = is_broken; ends = ends }
@@ -124,7 +124,7 @@ InputSpares (Whole limit) k old new = new ≡ old
 InputSpares (Live limit) k old new = (k.faults new ≡ k.faults old) × (k.finishes new ≡ k.finishes old)
 InputSpares Nothing k old new = new ≡ old
 
--- words that are no command's are refused without any memory
+-- what a call that ran out of memory leaves of its sink; words that are no command's are refused without any memory
 abbrev pub CallSpares : Option Command → {K : Type 0} → SinkTells K → K → K → Type 0
 CallSpares None k old new = ⊥
 CallSpares (Some command) k old new = InputSpares (input_of command) k old new

@@ -9,19 +9,19 @@ use Rattle.ts_run.specs.Watch.{line_gives, readings_of}
 abbrev pub readings_in : List (List ℕ) → List ℤ
 readings_in lines = flat_map (λ line. unwrap_or (line_gives line) []) lines
 
--- a line that gives this after so many readings is bad: nothing can be read of it, or a reading beyond the last that
+-- a line that gives this after `count` readings is bad: nothing can be read of it, or a reading beyond the last that
 -- may come
 abbrev pub IsBadBehind : ℕ → Option (List ℤ) → Type 0
 IsBadBehind count None = Unit {0}
 IsBadBehind count (Some values) = (0 < length values) × (longest ≤ count)
 
--- the line at this place, counted from 0, is bad after those before it and so many readings
+-- the line at this place, counted from 0, is bad after those before it and `count` readings
 abbrev pub IsBadAt : ℕ → List (List ℕ) → ℕ → Type 0
 IsBadAt count lines i =
     (line : List ℕ) × (slice_get lines i ≡ Some line)
     × IsBadBehind (count + length (readings_in (take i lines))) (line_gives line)
 
--- it is the first such line
+-- the line at place i is the first bad one
 pub record IsFirstBad (count : ℕ) (lines : List (List ℕ)) (i : ℕ) : Type 0 where
   pub bad : IsBadAt count lines i
   pub first : (j : ℕ) → j < i → IsBadAt count lines j → ⊥

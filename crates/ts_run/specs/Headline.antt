@@ -191,5 +191,5 @@ pub record Headline (command : Command) (bytes : List ℕ) (answer : Reply) : Ty
   pub marks : command ≡ Mark → SaysMarks bytes answer
   -- `watch` reports the values of the terms on each prefix of the readings, and refuses a window
   pub watches : (m : ModelParts) → command ≡ Watch → States command bytes m → SaysWatched m (rest_part bytes) answer
-  -- and the answer is one that the definitions give for the bytes
+  -- the answer is one that the definitions give for the bytes
   pub reply : IsReply command bytes answer

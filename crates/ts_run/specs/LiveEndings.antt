@@ -58,7 +58,7 @@ pub record ReadOn (limit : ℕ) (due : List ℕ → Due) (read : List ℕ) (befo
   pub written : (more : List ℕ) × (after ≡ taken_more before ((due first).text ++ more))
 
 -- The end of a call over a stream: what the source had left and its faults, what the sink took, and the status. `bytes`
--- are all that the source had left, or some that begin with those that it gave where it doesn't tell; `read` are those
+-- are all that the source had left, or some that begin with those that it gave where it doesn't say; `read` are those
 -- that it gave.
 pub record LiveEnds (limit : ℕ) (Is : List ℕ → Reply → Type 0) (due : List ℕ → Due)
     (left left_now : Option (List ℕ)) (faults faults_now : ℕ) (before after : Option (List ℕ)) (status : Status) :

@@ -13,7 +13,7 @@ abbrev pub TakesDue : (List ℕ → Due) → List ℕ → List ℕ → Option (L
 TakesDue due bytes piece before after =
     (more : List ℕ) × ((due (bytes ++ piece)).text ≡ (due bytes).text ++ more) × (after ≡ taken_more before more)
 
--- a prefix of it was taken, which is so
+-- a prefix of what a piece adds was taken, and something holds of it
 abbrev pub TakesFront : (List ℕ → Type 0) → (List ℕ → Due) → List ℕ → List ℕ → Option (List ℕ) → Option (List ℕ) →
     Type 0
 TakesFront Is due bytes piece before after =
@@ -24,7 +24,7 @@ abbrev pub IsAny : List ℕ → Type 0
 IsAny text = Unit {0}
 
 -- how a piece stops a call: what is owed was taken whole, and the piece has ended the stream; or a write failed, or
--- there was no memory, and a prefix of it was taken, without memory whole lines
+-- there was no memory, and a prefix of what is owed was taken, without memory whole lines
 abbrev pub Stops : (List ℕ → Due) → List ℕ → List ℕ → Option (List ℕ) → Option (List ℕ) → Status → Type 0
 Stops due bytes piece before after WriteFault = TakesFront IsAny due bytes piece before after
 Stops due bytes piece before after Memory = TakesFront IsLines due bytes piece before after

@@ -33,7 +33,7 @@ marks_reply d xs = record {
   status = Done;
 }
 
--- the refusal of the pattern that was read so, or on with it
+-- the refusal of a pattern by how it was read, or a reply to the pattern
 abbrev pub OnPattern : Result Described (ℕ × UserKind) → (Described → Reply → Type 0) → Reply → Type 0
 OnPattern (Err bad) next r = r ≡ refused_pattern bad.0 bad.1
 OnPattern (Ok d) next r = next d r
@@ -44,7 +44,7 @@ IsPlanRefusal d r =
     ((w : List Letter) × IsRefused (unplanned_in d) w × (r ≡ refused_closure w))
     ⊎ (IsTooMany (unplanned_in d) × (r ≡ refused_toomany))
 
--- the refusal of the plan, or on
+-- the refusal of the plan, or another reply where there is a plan
 abbrev pub OnPlan : Described → (Reply → Type 0) → Reply → Type 0
 OnPlan d Next r = IsPlanRefusal d r ⊎ (IsPlanned d × Next r)
 

@@ -6,7 +6,7 @@ use Rattle.ts_token.specs.Number.{number_of}
 abbrev pub usual_lines : ℕ
 usual_lines = 100000
 
--- from least to most
+-- a number from least to most
 abbrev pub IsWithin : ℕ → ℕ → ℕ → Type 0
 IsWithin least most n = (least ≤ n) × (n ≤ most)
 

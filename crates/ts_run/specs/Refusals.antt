@@ -83,23 +83,23 @@ sign_of Less = 60
 sign_of Equal = 61
 sign_of Greater = 62
 
--- by the signature on whose last letter a check of the plan fails
+-- the refusal of a plan by the signature on whose last letter a check fails
 abbrev pub refused_closure : List Letter → Reply
 refused_closure w = record { text = line (codes "refused closure " ++ map sign_of w); status = Refused }
 
 abbrev pub refused_toomany : Reply
 refused_toomany = record { text = codes "refused toomany\n"; status = Refused }
 
--- a text that was read so is refused, or the reply is one to the model that it states
+-- the refusal of a model by how it was read, or a reply to the model that its text states
 abbrev pub OnReading : Result ModelParts (ℕ × ModelKind) → (ModelParts → Reply → Type 0) → Reply → Type 0
 OnReading (Err bad) next r = r ≡ refused_model bad.0 bad.1
 OnReading (Ok m) next r = next m r
 
--- the refusal of the model in the text, in the limits of the need, or on with it
+-- the refusal of the model in the text, in the limits of the need, or a reply to the model
 abbrev pub OnModel : Need → List ℕ → (ModelParts → Reply → Type 0) → Reply → Type 0
 OnModel need text next r = OnReading (model_reading need text) next r
 
--- the refusal of a series, or on with it; no reading is lack of memory
+-- the refusal of a series, or a reply to it; no reading is lack of memory
 abbrev pub OnSeries : Result (List ℤ) SeriesStop → (List ℤ → Reply → Type 0) → Reply → Type 0
 OnSeries (Ok xs) next r = next xs r
 OnSeries (Err NoSeries) next r = r ≡ refused_series (codes "shape")

@@ -36,17 +36,17 @@ Gives Is (Err stop) = StopsWith Is stop
 abbrev pub NoMore : {A : Type 0} → A → Reply → Type 0
 NoMore x r = ⊥
 
--- the model of a text that was read so, or its refusal
+-- the model of a text by how it was read, or its refusal
 abbrev pub GivesModel : Result ModelParts (ℕ × ModelKind) → Result Model Stop → Type 0
 GivesModel reading (Ok m) = reading ≡ Ok (model_parts m)
 GivesModel reading (Err stop) = StopsWith (OnReading reading NoMore) stop
 
--- the series of a text that was read so, or its refusal
+-- the series of a text by how it was read, or its refusal
 abbrev pub GivesSeries : {X : Type 0} → (X → List ℤ) → Result (List ℤ) SeriesStop → Result X Stop → Type 0
 GivesSeries view reading (Ok xs) = reading ≡ Ok (view xs)
 GivesSeries view reading (Err stop) = StopsWith (OnSeries reading NoMore) stop
 
--- the pattern of a text that was read so, or its refusal
+-- the pattern of a text by how it was read, or its refusal
 abbrev pub GivesPattern : Result Described (ℕ × UserKind) → Result UserPattern Stop → Type 0
 GivesPattern reading (Ok u) = reading ≡ Ok (described_of u)
 GivesPattern reading (Err stop) = StopsWith (OnPattern reading NoMore) stop

@@ -41,7 +41,7 @@ ComesOfInput WriteFault = ⊥
 ComesOfInput Memory = ⊥
 ComesOfInput _ = Unit {0}
 
--- a status that tells of no fault
+-- a status that reports no fault
 abbrev pub TellsNoFault : Status → Type 0
 TellsNoFault ReadFault = ⊥
 TellsNoFault WriteFault = ⊥

@@ -1,4 +1,4 @@
--- The model of `sample N`: N cells of six values each; peaks no wider than 3 are to be as few as may be.
+-- The model of `sample N`: N cells of six values each; peaks no wider than 3 are to be as few as possible.
 use Rattle.std.specs.Prelude.{ℕ, zero, suc, ◌+◌, ◌*◌, ◌%◌, ℤ, pos, List, [], ◌∷◌, codes, Option, None, Some}
 use Rattle.ts_base.specs.declared.ext.Ext.TheVariants.{Int}
 use Rattle.ts_pattern.specs.declared.name.Aggregator.TheVariants.{Sum, Max}
@@ -15,7 +15,7 @@ least_of k = 7 * k % 10
 abbrev pub six_from : ℕ → List ℤ
 six_from l = pos l ∷ pos (l + 1) ∷ pos (l + 2) ∷ pos (l + 3) ∷ pos (l + 4) ∷ pos (l + 5) ∷ []
 
--- so many cells from cell k on
+-- n cells from cell k on
 abbrev pub cells_from : ℕ → ℕ → List (List ℤ)
 cells_from k zero = []
 cells_from k (suc n) = six_from (least_of k) ∷ cells_from (k + 1) n

@@ -12,7 +12,7 @@ pub record Due : Type 0 where
 abbrev pub nothing_due : Due
 nothing_due = record { text = []; ended = None }
 
--- the text begins so
+-- the text begins with the front
 abbrev pub IsFront : List ℕ → List ℕ → Type 0
 IsFront front text = (rest : List ℕ) × (text ≡ front ++ rest)
 
@@ -37,7 +37,7 @@ abbrev pub AddsDue : (List ℕ → Due) → List ℕ → List ℕ → List ℕ �
 AddsDue due bytes piece before after =
     (more : List ℕ) × (after ≡ before ++ more) × ((due (bytes ++ piece)).text ≡ (due bytes).text ++ more)
 
--- a prefix of it was put after the text, up to a line's end, where memory was missing
+-- a prefix of what a piece adds was put after the text, up to a line's end, where memory was missing
 pub record AddsLines (due : List ℕ → Due) (bytes piece before after : List ℕ) : Type 0 where
   pub more : List ℕ
   pub put : after ≡ before ++ more

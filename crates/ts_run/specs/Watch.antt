@@ -50,7 +50,7 @@ bad_at number = record { values = []; bad = Some number }
 abbrev pub after_values : List ℤ → Readings → Readings
 after_values values r = record { values = values ++ r.values; bad = r.bad }
 
--- what a line gives after so many readings, with those of the lines after it: a reading beyond the last that may come
+-- what a line gives after `count` readings, with those of the lines after it: a reading beyond the last that may come
 -- makes its line bad
 abbrev pub line_onto : ℕ → ℕ → Option (List ℤ) → (ℕ → Readings) → Readings
 line_onto count number None next = bad_at number
@@ -58,7 +58,7 @@ line_onto count number (Some []) next = next count
 line_onto count number (Some (v ∷ vs)) next =
     if nat_lt count longest then after_values (v ∷ []) (next (count + 1)) else bad_at number
 
--- the readings of lines, the first of which has this number, after so many others, up to the first bad line
+-- the readings of lines, the first of which has this number, after `count` others, up to the first bad line
 abbrev pub readings_from : ℕ → ℕ → List (List ℕ) → Readings
 readings_from count number [] = record { values = []; bad = None }
 readings_from count number (line ∷ lines) =
@@ -74,7 +74,7 @@ readings_of text = readings_from 0 1 (lines_of text)
 abbrev pub values_line : ModelParts → List ℤ → List ℕ
 values_line m xs = line (decimal (length xs) ++ behind (map ext_text (values_on m xs)))
 
--- a line for each of the readings xs, of all up to it, where others came before them
+-- a line for each of the readings xs, on all readings up to it, where others came before them
 abbrev pub values_lines : ModelParts → List ℤ → List ℤ → List ℕ
 values_lines m before [] = []
 values_lines m before (x ∷ xs) = values_line m (before ++ x ∷ []) ++ values_lines m (before ++ x ∷ []) xs

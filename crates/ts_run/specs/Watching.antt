@@ -38,7 +38,7 @@ abbrev pub IsCellReading : Reading → Type 0
 IsCellReading (Value v) = IsCellValue v
 IsCellReading _ = Unit {0}
 
--- after so many readings a line that gives this is read so: as one of them, where one more may come
+-- how a line that gives this is read after `count` readings: as one of them, where one more may come
 abbrev pub IsNext : ℕ → Option (List ℤ) → Reading → Type 0
 IsNext count gives Skipped = gives ≡ Some []
 IsNext count gives (Value v) = (gives ≡ Some (v ∷ [])) × (count < longest) × IsCellValue v
@@ -56,7 +56,7 @@ pub record HasTaken (m : ModelParts) (text : List ℕ) (values : List ℤ) (r : 
   pub stands : StandsFor r.monitor values
   pub terms : HasTerms m r.monitor
 
--- the bytes are such a text and a line without an LF, which what is kept stands for
+-- the bytes are whole lines that were taken, and a line without an LF, which what is kept stands for
 pub record AreReadings (m : ModelParts) (bytes : List ℕ) (r : ReadingsText) : Type 0 where
   pub text : List ℕ
   pub line : List ℕ
@@ -87,7 +87,7 @@ EndsLine m text values before after (Some status) new =
     (number : ℕ) × (readings_of text ≡ record { values = values; bad = Some number }) × (status ≡ Refused)
     × (after ≡ before ++ (refused_reading number).text)
 
--- whatever whole lines came before, with a line that what is kept stands for
+-- whatever whole lines came before, the line that what is kept stands for is read
 abbrev pub ReadsLine : ReadingsText → List ℕ → List ℕ → Option Status → ReadingsText → Type 0
 ReadsLine old before after ended new =
     (m : ModelParts) (text line : List ℕ) (values : List ℤ) → AreEnded text → IsLine line → IsShort line old.line →

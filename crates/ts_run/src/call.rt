@@ -26,9 +26,9 @@ use ts_base::{Memory, NeverSink, NeverSource, ReadStop, Sink, Source, take_all};
 /// Words that aren't a command are refused and the source stays unread, as it does on `sample`. If a read failed, which
 /// shows in the count of faults, the reply is `fault read`; else it is what the command answers to the bytes that the
 /// source had left, by the theorem (`Headline`). After `Memory` the sink is as it was and no read failed; after
-/// `WriteFault`, which comes only where a count tells it, it has taken a prefix of the reply. After every other status
-/// the reply was taken whole, the sink was finished once, and no fault of its own was counted. Nothing is read once a
-/// read failed, or the end of the source was found.
+/// `WriteFault`, which is reported only where a fault was counted, it has taken a prefix of the reply. After every
+/// other status the reply was taken whole, the sink was finished once, and no fault of its own was counted. Nothing is
+/// read once a read failed, or the end of the source was found.
 ///
 /// `watch` takes its input as a stream: what a piece of it owes is written before the next is read. So a failed read,
 /// or a byte more than the limit, is reported after what was owed before, and after `Memory` the sink has taken

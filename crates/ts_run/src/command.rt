@@ -19,7 +19,7 @@ pub enum Command {
     Best { goal: Goal, budget: Budget },
     /// The first `count` series, `generate`.
     Generate { count: Count, budget: Budget },
-    /// A model with so many cells that is made, minimised and checked.
+    /// A model with this many cells that is made, minimised and checked.
     Sample { cells: Cells },
     /// The occurrences of a pattern in a series.
     Mark,
@@ -49,7 +49,7 @@ impl Command {
         }
     }
 
-    /// How it takes its input.
+    /// How the command takes its input.
     pub fn input(&self) -> Input
         ensures input { result ≡ input_of self.now }
         ensures short { IsShort result }

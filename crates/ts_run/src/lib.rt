@@ -1,7 +1,8 @@
 //! The top of the program: from the words of a command and the bytes of its input to a text and a status.
 //!
 //! `run` reads its input through a `Source`, makes the whole reply in memory, and writes it through a `Sink`; `watch`
-//! alone writes as it reads. What is replied is a definition over the bytes; a fault comes only where a count tells it.
+//! alone writes as it reads. What is replied is a definition over the bytes; a fault is reported only where one was
+//! counted.
 //!
 //! ```text
 //! let status = run(alloc, &words, &mut StdIn::new(reader), &mut StdOut::new(writer));

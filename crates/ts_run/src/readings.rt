@@ -27,7 +27,7 @@ use ts_model::{Model, value_of};
 use ts_monitor::Monitor;
 use ts_token::{ShortLine, Single, single_word};
 
-/// No more readings are taken.
+/// The most readings that are taken.
 const MOST_READINGS: u32 = 100_000;
 
 /// What a line gives: nothing where it is skipped, a reading where it has one number that a cell may have.
@@ -101,7 +101,7 @@ impl ReadingsText {
         }
     }
 
-    /// The line has ended.
+    /// Ends the line: takes its reading, or says the status where the line is bad.
     fn end_line(&mut self, text: &mut Vec<u8>) -> Result<Option<Status>, Memory>
         requires { MayRead self.old }
         ensures reads { IfOk result (λ ended. ReadsLine self.old text.old.items text.new.items ended self.new) }
@@ -126,7 +126,7 @@ impl ReadingsText {
         }
     }
 
-    /// The next line begins.
+    /// Begins the next line.
     fn next_line(&mut self)
         requires few { self.old.lines < too_many }
         ensures lines { self.new.lines ≡ self.old.lines + 1 }
@@ -172,7 +172,7 @@ fn reading_in(line: &[u8]) -> Reading
     }
 }
 
-/// The number of readings and the values of the terms on them; after `Memory` the text is as it was.
+/// Appends the number of readings and the values of the terms on them; after `Memory` the text is as it was.
 fn push_values(text: &mut Vec<u8>, monitor: &Monitor) -> Result<(), Memory>
     requires some { 1 ≤ monitor.now.count }
     requires few { length monitor.now.terms ≤ most_terms }
@@ -191,7 +191,7 @@ fn push_values(text: &mut Vec<u8>, monitor: &Monitor) -> Result<(), Memory>
     }
 }
 
-/// The number of readings and the values, put after the text; after `Memory` a prefix of the line may be left there.
+/// Appends the number of readings and the values; after `Memory` a prefix of the line may be left there.
 fn push_line(text: &mut Vec<u8>, monitor: &Monitor) -> Result<(), Memory>
     requires some { 1 ≤ monitor.now.count }
     requires few { length monitor.now.terms ≤ most_terms }
@@ -208,7 +208,7 @@ fn push_line(text: &mut Vec<u8>, monitor: &Monitor) -> Result<(), Memory>
     Ok(())
 }
 
-/// The number of readings; after `Memory` the text is as it was.
+/// Appends the number of readings; after `Memory` the text is as it was.
 fn push_count(text: &mut Vec<u8>, count: u32) -> Result<(), Memory>
     ensures ok { OnOk result (text.new.items ≡ text.old.items ++ decimal count) }
     ensures err { OnErr result (text.new.items ≡ text.old.items) }
@@ -216,7 +216,7 @@ fn push_count(text: &mut Vec<u8>, count: u32) -> Result<(), Memory>
     push_number(text, i64::from(count))
 }
 
-/// A space and a value; after `Memory` perhaps the space alone.
+/// Appends a space and a value; after `Memory` perhaps the space alone.
 fn push_spaced(text: &mut Vec<u8>, value: Ext) -> Result<(), Memory>
     ensures ok { OnOk result (text.new.items ≡ text.old.items ++ 32 ∷ ext_text value) }
     ensures err { OnErr result ((front : List ℕ) × (text.new.items ≡ text.old.items ++ front)) }

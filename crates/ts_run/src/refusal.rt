@@ -126,7 +126,7 @@ fn sign_of(letter: Letter) -> u8
     }
 }
 
-/// The sign of each letter.
+/// Appends the sign of each letter.
 fn push_signs(text: &mut Vec<u8>, signature: &[Letter]) -> Result<(), Memory>
     ensures { OnOk result (text.new.items ≡ text.old.items ++ map sign_of signature.now) }
 {

@@ -21,7 +21,7 @@ use ts_checker::{Checker, verdict_on};
 use ts_compile::compile_model;
 use ts_search::solve;
 
-/// What the search finds in the model with so many cells, with the checker's verdict on its certificate; or that its
+/// What the search finds in the model with this many cells, with the checker's verdict on its certificate; or that its
 /// lines ran out.
 pub fn sample(alloc: Global, cells: Cells) -> Result<Reply, Memory>
     ensures reply { IfOk result (λ r. SampleReply cells (reply_of r)) }
@@ -84,7 +84,7 @@ fn ran_out(alloc: Global, n: u32) -> Result<Reply, Memory>
     Ok(Reply { text, status })
 }
 
-/// The two lines with the number of cells.
+/// Appends the two lines with the number of cells.
 fn push_head(text: &mut Vec<u8>, n: u32) -> Result<(), Memory>
     ensures { OnOk result (text.new.items ≡ text.old.items ++ head_lines n) }
 {
@@ -92,7 +92,7 @@ fn push_head(text: &mut Vec<u8>, n: u32) -> Result<(), Memory>
     push_counted(text, b"cells ", i64::from(n))
 }
 
-/// A line with words and a number.
+/// Appends a line with words and a number.
 fn push_counted(text: &mut Vec<u8>, words: &[u8], number: i64) -> Result<(), Memory>
     ensures { OnOk result (text.new.items ≡ text.old.items ++ line (words.now ++ signed_decimal number)) }
 {

@@ -44,7 +44,7 @@ pub fn sample_model(alloc: Global, n: u32) -> Result<Model, Memory>
     })
 }
 
-/// The domains of its cells.
+/// The domains of the model's cells.
 fn cells(alloc: Global, n: u32) -> Result<Vec<Domain>, Memory>
     requires { n ≤ most_cells }
     ensures { IfOk result (λ cells. cells.items ≡ cells_from 1 n) }

@@ -58,7 +58,7 @@ pub(crate) fn run_live<L: Live, S: Source, K: Sink>(
     }
 }
 
-/// Takes a piece and writes what it owes by one text; says the status where the call ends so.
+/// Takes a piece and writes what it owes by one text; says the status where that ends the call.
 fn serve_piece<L: Live, K: Sink>(
     live: &mut L,
     piece: &[u8],

@@ -22,7 +22,7 @@ use ts_checker::{Verdict, Verifier, VerifyEnd};
 pub struct Verifying(Verifier);
 
 impl Verifying {
-    /// Has taken nothing so far.
+    /// A verifier that has taken nothing so far.
     pub fn new(alloc: Global) -> Verifying
         ensures { HasFed [] result.0 }
     {

@@ -21,7 +21,7 @@ use ts_model::{Model, ModelStop, ModelText, Need};
 /// Where a stream has led.
 #[derive(Drop)]
 pub(crate) enum Stage {
-    /// Its model hasn't ended.
+    /// The model hasn't ended.
     InModel(ModelText),
     /// After the line `%%`.
     InReadings(ReadingsText),
@@ -37,7 +37,7 @@ pub(crate) struct Watching {
 }
 
 impl Watching {
-    /// Before the first byte.
+    /// A stream before its first byte.
     pub(crate) fn new(alloc: Global) -> Watching
         ensures { HasCome [] result.stage }
     {
@@ -70,7 +70,7 @@ impl Watching {
         }
     }
 
-    /// The line `%%` has come: readings of the model stand in its place, or it is refused, or a window in it.
+    /// The line `%%` has come: readings of the model take the model's place, or it is refused, or a window in it.
     fn end_model(&mut self, text: &mut Vec<u8>) -> Result<Option<Status>, Memory>
         requires some { (bytes : List ℕ) × EndsIn bytes self.old.stage }
         ensures put { IfOk result (λ ended. (bytes : List ℕ) → EndsIn bytes self.old.stage →

@@ -162,7 +162,7 @@ static ROWS: [Row; 16] = [
     },
 ];
 
-/// The sources and sinks of these don't fail.
+/// Calls whose source and sink don't fail.
 static PIECES: [Row; 22] = [
     Row {
         words: "watch",

@@ -6,7 +6,7 @@ use Rattle.ts_run.specs.declared.status.Status.{Status}
 use Rattle.ts_run.proofs.ReadingSteps.{ends_bad, ends_good, ends_none, may_end_last}
 use Rattle.ts_run.proofs.readings.ReadingsText.end.Goals as goal
 
--- the same of the status that is known
+-- what was read, with the status that is known
 reads_as : (old new : ReadingsText) (before after : List ℕ) (told ended : Option Status) → told ≡ ended → ReadsLine old before after told new →
     ReadsLine old before after ended new
 reads_as old new before after told ended is reads = subst (λ (e : Option Status). ReadsLine old before after e new) is reads

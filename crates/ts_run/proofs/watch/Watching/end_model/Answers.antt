@@ -37,7 +37,7 @@ returns-in_ok-new-in-Ok-clause-goes_on c = λ none bytes ends.
     model_opens bytes c.in-InModel.model.need h.1 c.in-Ok.model _ (c.in-Ok.ensures bytes h.0)
     (sym c.has_window.ensures ∙ c.if-has_window.false) c.in_ok-new-in-Ok.ensures.stand
 
--- but has a window
+-- the model is read, but has a window
 
 pub returns-then-has_window-clause-put : goal.returns-then-has_window-clause-put
 returns-then-has_window-clause-put c = λ bytes ends.
@@ -46,7 +46,7 @@ returns-then-has_window-clause-put c = λ bytes ends.
     c.in_ok-status-in-Ok.status (c.in-Ok.ensures bytes h.0) (sym c.has_window.ensures ∙ c.if-has_window.true)
     c.in_ok-status-in-Ok.ensures.put
 
--- or refused
+-- the model is refused
 
 pub returns-in_ok-status-in-Err-clause-put : goal.returns-in_ok-status-in-Err-clause-put
 returns-in_ok-status-in-Err-clause-put c = λ bytes ends.

@@ -5,7 +5,7 @@ use Rattle.ts_run.proofs.ReadingSteps.{on_ok_of}
 use Rattle.ts_run.proofs.WatchSteps.{at_mark, behind_adds, behind_ends, behind_on, mark_adds, rest_few, still_adds, still_in, still_open}
 use Rattle.ts_run.proofs.watch.Watching.take_part.Goals as goal
 
--- after the model: what is said of the rest is said of all bytes
+-- after the model: what holds of the rest holds of all bytes
 
 pub take-requires-clause-some : goal.take-requires-clause-some
 take-requires-clause-some c =

@@ -36,7 +36,7 @@ returns-in-Ok c = record {
       c.push_none.ensures;
 }
 
--- or refused
+-- the input ended in the model, which is refused
 
 pub returns-in-Err : goal.returns-in-Err
 returns-in-Err c = record {
