@@ -1,4 +1,4 @@
-//! Texts that are read and written again, and texts that are refused, each line told worked out by hand.
+//! Texts that are read and written again, and texts that are refused; the line of each refusal was worked out by hand.
 
 use std::alloc::Global;
 use ts_automaton::{AutoStop, Automaton, Direction, read, write, write_head};
@@ -155,7 +155,7 @@ fn what_was_written_is_read(rt: HostRuntime) {
     }
 }
 
-/// The stop that the head of a row tells.
+/// The stop that the head of a row names.
 fn stop_of(head: &str) -> Option<AutoStop> {
     let (stop, line) = head.split_once(' ')?;
     let line = line.parse::<u32>().ok()?;

@@ -92,7 +92,7 @@ pub(crate) fn one_cell(alloc: Global, numbers: &[i64]) -> Option<Boxed> {
     Boxed::new(alloc, &[domain]).ok()
 }
 
-/// Whether the walk gives so many numbers, each of the set and above the one before.
+/// Whether the walk gives this many numbers, each of the set and above the one before.
 fn walks_over(domain: &Domain, count: u64) -> bool {
     let mut seen = 0_u64;
     let mut last = None;
@@ -150,7 +150,7 @@ fn are_ends(ranges: &[(i64, i64)], first: i64, last: i64) -> bool {
     }
 }
 
-/// Whether the set has these ranges, so many numbers, and the ends of the ranges as its first and last number.
+/// Whether the set has these ranges, this many numbers, and the ends of the ranges as its first and last number.
 fn is_union(domain: &Domain, wanted: &[(i64, i64)], count: u64) -> bool {
     let size = domain.size();
     if size != count || size < 1 || domain.is_single() != (count == 1) {
@@ -200,7 +200,7 @@ fn are_cells(cells: &Boxed, first: &[(i64, i64)], second: &[(i64, i64)]) -> bool
     cells.cells() == 2 && has_ranges(cells.cell(1), first) && has_ranges(cells.cell(2), second)
 }
 
-/// Goes back to a mark, and tells whether the box is there.
+/// Goes back to a mark, and answers whether the box is there.
 fn goes_back(cells: &mut Boxed, mark: usize) -> bool {
     if cells.mark() < mark {
         return false;
@@ -270,7 +270,7 @@ fn ways_back_hold(cells: &mut Boxed) -> bool {
         && are_cells(cells, &BOTH, &WHOLE)
 }
 
-/// What two sets tell.
+/// Whether two sets answer what they should.
 fn are_told(both: &Domain, whole: &Domain) -> Result<bool, Memory> {
     if whole.size() != 9 {
         return Ok(false);
@@ -284,7 +284,7 @@ fn are_told(both: &Domain, whole: &Domain) -> Result<bool, Memory> {
     )
 }
 
-/// The box of both sets. None where they tell something else.
+/// The box of both sets. None where they answer something else.
 fn two_cells(alloc: Global) -> Option<Boxed> {
     let both = union(alloc, &[3, 5], &[3, 5])?;
     let whole = union(alloc, &[0, 7, 12], &[4, 9, 12])?;

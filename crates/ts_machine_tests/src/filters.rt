@@ -15,7 +15,7 @@ pub(super) const OPS: [Op; 6] = [
     Op::Above,
 ];
 
-/// A span, a bound, and for each comparison in its order whether no number of the span compares so with the bound.
+/// A span, a bound, and for each comparison in its order whether no number of the span meets it with the bound.
 static REFUTED: [((Ext, Ext), Ext, [bool; 6]); 20] = [
     (
         (Int(2), Int(2)),

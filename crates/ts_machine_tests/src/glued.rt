@@ -84,7 +84,7 @@ fn has_value(machine: &Machine, splits: bool, series: &[i64], wanted: Ext) -> bo
     answer(machine.forward(), series) == wanted && (!splits || is_glued(machine, series, wanted))
 }
 
-/// Whether it has the values of a pair on all series.
+/// Whether the machine has the values of a pair on all series.
 fn has_values(machine: &Machine, splits: bool, values: &Values, pair: usize) -> bool
     requires { pair < 16 }
 {

@@ -1,4 +1,4 @@
-//! Packed rows that meet at a cell tell the spans that tables of plain hulls tell: at each value of each cell of a box,
+//! Packed rows that meet at a cell give the spans that tables of plain hulls give: at each value of each cell of a box,
 //! under all sixteen pairs of aggregator and feature.
 
 ghost use Rattle.std.specs.Prelude.{◌≡◌, ◌<◌, ◌≤◌, IsSome, Some, length};
@@ -50,7 +50,7 @@ impl Asked for Nothing {
     }
 }
 
-/// The span where two rows meet, told and asked.
+/// The span where two rows meet, as it is given and as it is asked for.
 fn met<const N: usize>(
     joints: &Joints,
     left: &RowView<'_, N>,
@@ -180,7 +180,7 @@ fn is_same_at(alloc: Global, m: &Machine, cells: &Boxed, k: u32) -> Result<bool,
     Ok(true)
 }
 
-/// The first cell at which they differ, of a machine that can be split.
+/// The first cell at which both ways differ, of a machine that can be split.
 #[tactic(auto, using(crate::proofs::Splits::split_is))]
 fn first_other(alloc: Global, m: &Machine, cells: &Boxed) -> Result<Option<u32>, Fail>
     requires cells { 1 ≤ length cells.now.present }
@@ -206,7 +206,7 @@ fn is_same_under(alloc: Global, term: &Term, cells: &Boxed) -> Result<bool, Fail
     Ok(first_other(alloc, &m, cells)?.is_none())
 }
 
-/// The first feature that folds cells under which they differ, with this aggregator.
+/// The first feature that folds cells under which both ways differ, with this aggregator.
 fn wrong_feature(
     alloc: Global,
     aggregator: Aggregator,

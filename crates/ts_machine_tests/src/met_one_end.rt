@@ -1,4 +1,4 @@
-//! Rows of one end: what rows of upper ends and rows of lower ends hold at the cells of small boxes, and what they tell
+//! Rows of one end: what rows of upper ends and rows of lower ends hold at the cells of small boxes, and what they show
 //! where two of them meet. All numbers are by a program that knows no Rattle and goes over all series of a box: it runs
 //! the transducers of the catalogue on numbers, and reads the value of a term off the matches of its expression that no
 //! other match contains.
@@ -6,7 +6,7 @@
 //! A table is one text. A box is a term, after a `|` the ends that stand for those that aren't kept, and its cells;
 //! after a line `/` come lines about it. A line `%` stands between two boxes.
 //!
-//! | line | what it tells |
+//! | line | what it says |
 //! |---|---|
 //! | `ahead K ROW`, `back K ROW` | the row of cell K, read from the first cell on, or from the last one back |
 //! | `at K V SPAN\|V SPAN` | for each value of cell K the least and the greatest value of the term, told and asked |
@@ -623,8 +623,8 @@ fn finishes_are_told<const N: usize>(
     cell.size() == place as u64
 }
 
-/// Whether questions about many bounds get what is told: nothing where a number of the span has what is asked, and
-/// else what rows show.
+/// Whether questions about many bounds are answered rightly: by nothing where a number of the span has what is asked,
+/// and else by what rows show.
 fn is_answered<const N: usize>(
     joints: &Joints,
     left: &RowView<'_, N>,
@@ -661,7 +661,7 @@ fn is_answered<const N: usize>(
     true
 }
 
-/// Whether the span at a value is the one that is written, told and asked.
+/// Whether the span at a value is the one that is written, as it is given and as it is asked for.
 fn value_is_told<const N: usize>(
     joints: &Joints,
     left: &RowView<'_, N>,
@@ -751,7 +751,7 @@ fn settled_is_told<const N: usize>(
     }
 }
 
-/// Whether rows that meet at a cell tell what is written: how many places are settled, or the spans of all values.
+/// Whether rows that meet at a cell give what is written: how many places are settled, or the spans of all values.
 fn meeting_is_told<const N: usize>(
     joints: &Joints,
     left: &RowView<'_, N>,
@@ -791,7 +791,7 @@ fn narrow_joints(m: &Machine) -> Option<(&Automaton, Joints)>
     Some((reverse, Joints::of(m)))
 }
 
-/// Whether the rows of a machine that meet at a cell tell what is written.
+/// Whether the rows of a machine that meet at a cell give what is written.
 fn meeting_holds<const N: usize>(
     alloc: Global,
     m: &Machine,
@@ -859,7 +859,7 @@ fn back_holds<const N: usize>(
     }
 }
 
-/// Whether the spans that are written of a cell are told there: glued ones, and finish spans at the last cell.
+/// Whether the spans that are written of a cell are those there: glued ones, and finish spans at the last cell.
 fn spans_hold<const N: usize>(
     alloc: Global,
     m: &Machine,
@@ -884,7 +884,7 @@ fn spans_hold<const N: usize>(
     meeting_holds::<N>(alloc, m, cells, far, k, "at", written)
 }
 
-/// Whether what is written about a cell holds of rows with so many lanes.
+/// Whether what is written about a cell holds of rows with N lanes.
 fn cell_holds<const N: usize>(
     alloc: Global,
     m: &Machine,

@@ -27,7 +27,7 @@ pub(crate) fn whole_row<'a, const N: usize>(
     row.part(0, cell.size() as usize)
 }
 
-/// The cell that is read after so many others, from the first one on or from the last one back.
+/// The cell that is read after `before` others, from the first one on or from the last one back.
 fn read_cell(n: u32, back: bool, before: u32) -> u32
     requires { before < n }
     ensures { result ≡ cond back (n - before) (before + 1) }
@@ -82,7 +82,7 @@ fn next_row<const N: usize>(
     Ok(next)
 }
 
-/// The row of the cell that is read after so many others, from the first one on or from the last one back.
+/// The row of the cell that is read after some others, from the first one on or from the last one back.
 fn row_after<const N: usize>(
     alloc: Global,
     a: &Automaton,

@@ -79,7 +79,7 @@ fn cells_spared(
     Ok(Some(count))
 }
 
-/// Whether that number is so for each requirement of the model, whose one term has the machine.
+/// Whether the number of spared cells is right for each requirement of the model, whose one term has the machine.
 fn row_holds(
     alloc: Global,
     model: &Model,

@@ -1,4 +1,4 @@
-//! Boxes with what is told of them under one term or automaton: rows of hulls, spans, and what spans leave out. All
+//! Boxes with what is said of them under one term or automaton: rows of hulls, spans, and what spans leave out. All
 //! numbers are by programs that know no Rattle: they follow the definitions over all pairs of values, or go over all
 //! series, and make the automata of terms from the tables of seeds.
 //!
@@ -7,7 +7,7 @@
 //! after a `|` the first and the last cell that they look at, and below them a model without a term: then a line has a
 //! span for each of them.
 //!
-//! | line | what it tells |
+//! | line | what it says |
 //! |---|---|
 //! | `ahead K ROW`, `back K ROW` | the row of cell K in each table: none at a cell that isn't looked at |
 //! | `at K SPAN` | the span at cell K |
@@ -191,7 +191,7 @@ fn value_is_told(
     Ok(at_value == wanted && calls::value_holds(alloc, m, cells, k, v, wanted)?)
 }
 
-/// All values of a cell.
+/// Whether all values of a cell are as they are written.
 fn values_are_told(
     alloc: Global,
     m: &Machine,
@@ -215,7 +215,7 @@ fn values_are_told(
     Ok(cells.cell(k).size() == count)
 }
 
-/// The span at a cell, what it leaves out, and perhaps its values.
+/// Whether the span at a cell, what it leaves out, and perhaps its values are as they are written.
 fn spans_are_told(
     alloc: Global,
     m: &Machine,
@@ -293,7 +293,7 @@ fn line_holds(
     }
 }
 
-/// The first line that doesn't hold, and `first` where other cells are told first.
+/// The first line that doesn't hold, and `first` where other cells are answered first.
 fn first_wrong<'a>(
     alloc: Global,
     m: &Machine,

@@ -183,7 +183,7 @@ fn source_of(alloc: Global, fails_at: u64) -> Result<MemorySource, Memory> {
     Ok(MemorySource::new(text, 4, vec![in alloc; fails_at]?))
 }
 
-/// Whether so much is read, or the reading stops so.
+/// Whether this much is read, or the reading stops in this way.
 fn is_read(
     alloc: Global,
     source: &mut MemorySource,

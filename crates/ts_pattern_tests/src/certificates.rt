@@ -78,7 +78,7 @@ fn read(alloc: Global, text: &[u8]) -> Result<Certificate, CertStop> {
     Ok(certificate)
 }
 
-/// Whether the text of a row is written again as it was, or refused, as the row tells.
+/// Whether the text of a row is written again as it was, or refused, as the row says.
 pub(super) fn is_told(alloc: Global, row: &[u8]) -> Result<bool, Memory> {
     let Some((want, written)) = halves(row) else {
         return Ok(false);
@@ -122,7 +122,7 @@ fn told(alloc: Global, reader: &mut LineReader, line: &[u8]) -> Result<Parsed, C
     reader.line(alloc, line)
 }
 
-/// Whether a second line that is refused is told again and again.
+/// Whether a second line that is refused is reported again and again.
 fn keeps_its_stop(alloc: Global) -> bool {
     let mut reader = LineReader::new();
     let first = told(alloc, &mut reader, b"generate 2\n");

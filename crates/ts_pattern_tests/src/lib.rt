@@ -1,9 +1,9 @@
-//! The tests of what is read and told of texts, letters, words, patterns, models and certificates.
+//! The tests of what is read and answered of texts, letters, words, patterns, models and certificates.
 //!
 //! A crate with tests is proved twice, once without them and once with them. So tests of public calls stand in crates
-//! where nothing else is proved: here, in `ts_machine_tests` those of automata, of what they tell of series and boxes,
+//! where nothing else is proved: here, in `ts_machine_tests` those of automata, of what they say of series and boxes,
 //! and of boxes that wait, in `ts_tests` those of values of models, searches, verdicts and `ts_run`. What a whole run
-//! of a command tells is no test but a row of `examples/rows`. Each module is named for what it tries, and each
+//! of a command writes is no test but a row of `examples/rows`. Each module is named for what it tries, and each
 //! expected value comes from outside the program: from a definition worked out by hand, or by enumeration.
 #![tactic(auto)]
 

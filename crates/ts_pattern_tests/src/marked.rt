@@ -134,7 +134,7 @@ fn catalogue_line(alloc: Global, name: &[u8]) -> Result<Vec<u8>, Memory> {
     Ok(line)
 }
 
-/// Whether both mark the same ranges in all series, and so many.
+/// Whether both mark the same ranges in all series, and this many.
 fn are_so_many(
     alloc: Global,
     v: &Validated,

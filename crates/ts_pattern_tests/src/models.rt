@@ -1,6 +1,6 @@
 //! What models hold that were read of texts, worked out by hand. Texts that are refused are in `examples/rows`.
 //!
-//! A table is one literal of rows: what is told, a `|`, and the text of which it is told, in which `/` stands for LF.
+//! A table is one literal of rows: what is read, a `|`, and the text of which it is read, in which `/` stands for LF.
 
 ghost use Rattle.std.specs.Prelude.{◌+◌, ◌<◌, ◌≤◌, length};
 ghost use Rattle.ts_model.specs.LineByLine.{HasRoom, lines_read};
@@ -43,11 +43,11 @@ pub(super) fn held() -> &'static str {
 enum Direction {
     Together,
     OneByOne,
-    /// By what is kept of each.
+    /// By what is kept of each line.
     Shortened,
 }
 
-/// What is told of a text.
+/// What is read of a text, as rows write it.
 fn told(alloc: Global, read: Result<Model, ModelStop>) -> Result<String, AllocError> {
     match read {
         Ok(model) => parts_of(alloc, &model),
@@ -56,7 +56,7 @@ fn told(alloc: Global, read: Result<Model, ModelStop>) -> Result<String, AllocEr
     }
 }
 
-/// Whether of the text of a row is told what the row says, in whatever way its lines are read.
+/// Whether what is read of the text of a row is what the row says, in whatever way its lines are read.
 pub(super) fn is_held(alloc: Global, row: &[u8]) -> Result<bool, Memory> {
     let Some((want, written)) = halves(row) else {
         return Ok(false);
@@ -142,7 +142,7 @@ fn values_of(alloc: Global, model: &Model) -> Result<String, AllocError> {
     Ok(text)
 }
 
-/// Whether of a text is read this series, for as many cells.
+/// Whether this series is read of a text, for as many cells.
 fn is_read(alloc: Global, text: &[u8], wanted: &[i64]) -> Result<bool, Memory> {
     if text.len() >= 10_000 || wanted.len() >= 10 {
         return Ok(false);

@@ -11,7 +11,7 @@ use ts_user::{BuildStop, build_plan};
 /// What there is of a transducer and a pattern.
 #[derive(Clone, Copy)]
 enum Answer {
-    /// A plan with so many residuals and with these configurations, as `validated` writes them.
+    /// A plan with this many residuals and with these configurations, as `validated` writes them.
     Listed(usize, &'static str),
     /// A check fails at the end of this signature.
     Refused(&'static str),
@@ -48,7 +48,7 @@ const RISING: State = (
     (Phase::Out, 0),
 );
 
-/// It goes to the second state on every sign.
+/// A state that goes to the second state on every sign.
 const LEAVING: State = (
     Kind::Idle,
     (Phase::Out, 1),

@@ -122,7 +122,7 @@ fn builds_as_large(alloc: Global, id: PatternId, row: &[u8]) -> Result<bool, Mem
     }
 }
 
-/// What stands in a seed.
+/// Whether what stands in a seed is what its row says.
 pub(super) fn is_counted(alloc: Global, row: &[u8]) -> Result<bool, Memory> {
     match pattern_of(word(row, 0)) {
         Some(id) => Ok(

@@ -1,4 +1,4 @@
-//! What no clause can say, since a reader and a writer tell nothing of their errors: each call makes one call inside
+//! What no clause can say, since a reader and a writer say nothing of their errors: each call makes one call inside
 //! and ends as that one did, whatever the size of the piece. Nor does a clause count the reads that give nothing:
 //! whoever reads to the end comes there once.
 
@@ -31,8 +31,8 @@ fn one_more(count: &Cell<u64>) {
     count.set(count.get().saturating_add(1));
 }
 
-/// Fails at one call of all, by its number from 1, and counts its calls. A read gives at most `step` bytes, and so many
-/// reads give some.
+/// Fails at one call of all, by its number from 1, and counts its calls. A read gives at most `step` bytes, and the
+/// first `reads` reads give some.
 #[derive(Drop)]
 struct Device<'a> {
     fails_at: u64,
@@ -136,8 +136,8 @@ fn one_call_inside(rt: HostRuntime) {
     assert!(rt; a_second_flush_fails());
 }
 
-/// How many bytes are read under this limit, or why none, and by how many calls. So many reads give two bytes each, the
-/// next one gives none, and the one after it fails.
+/// How many bytes are read under this limit, or why none, and by how many calls. The first `reads` reads give two bytes
+/// each, the next one gives none, and the one after it fails.
 fn read_of(alloc: Global, reads: u8, limit: u8) -> (Result<usize, ReadStop>, u64) {
     let counts = Counts::new();
     let mut input = StdIn::new(Device {

@@ -280,7 +280,7 @@ fn words_and_their_numbers(rt: HostRuntime) {
     }
 }
 
-/// Gives the line in two parts, and tells whether `%%` is its only word.
+/// Gives the line in two parts, and answers whether `%%` is its only word.
 fn feed_halves(short: &mut ShortLine, line: &[u8]) -> Result<bool, Memory>
     requires none { IsShort [] short.old }
     requires few { length line.now < 1000 }

@@ -153,7 +153,7 @@ fn pattern(alloc: Global, small: &Small) -> Result<Pattern, Memory> {
     })
 }
 
-/// Whether what was validated has so many states and this pattern.
+/// Whether what was validated has this many states and this pattern.
 fn keeps(validated: &Validated, states: usize, pattern: &Pattern) -> bool {
     let kept = validated.pattern();
     validated.transducer().rows().len() == states
@@ -186,7 +186,7 @@ fn is_failure(stop: ValidateStop, failure: Failure) -> bool {
     }
 }
 
-/// Whether a plan of the pattern is found closed, or refused, as it is said.
+/// Whether a plan of the pattern is found closed, or refused, as its row says.
 fn is_judged(
     alloc: Global,
     transducer: Transducer,

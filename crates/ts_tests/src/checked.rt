@@ -1,4 +1,4 @@
-//! What a checker and a verifier tell on the way, worked out by hand.
+//! What a checker and a verifier report on the way, worked out by hand.
 
 mod certificates;
 mod inputs;

@@ -132,7 +132,7 @@ fn values_after_each_reading(rt: HostRuntime) {
     assert!(rt; has_values(rt.alloc()) == Ok(true));
 }
 
-/// The best claim and its only series, by so many lines.
+/// Whether the claim is the best value, with its only series, after seven lines.
 fn is_solved(alloc: Global) -> Option<bool> {
     let model = model_of(alloc, PEAKS, Need::Best)?;
     let program = compile_model(alloc, &model).ok()?;
@@ -147,7 +147,7 @@ fn is_solved(alloc: Global) -> Option<bool> {
     }
 }
 
-/// The first two series.
+/// Whether the listing has the first two series.
 fn is_listed(alloc: Global) -> Option<bool> {
     let model = model_of(alloc, PEAKS, Need::List)?;
     let program = compile_model(alloc, &model).ok()?;
@@ -168,7 +168,7 @@ fn searches(rt: HostRuntime) {
     assert!(rt; is_listed(rt.alloc()) == Some(true));
 }
 
-/// How many questions the first 20 series of a model cost the tables, and of how many values spans are asked whether
+/// How many questions the first 20 series of a model cost the tables, and about how many values spans are asked whether
 /// they are dropped, in all, with witnesses or without.
 fn asked_of_tables(alloc: Global, text: &str, witnessed: bool) -> Option<u64> {
     let model = model_of(alloc, text, Need::List)?;
@@ -176,17 +176,17 @@ fn asked_of_tables(alloc: Global, text: &str, witnessed: bool) -> Option<u64> {
     asked_by_list(alloc, &model, &program, 20, 100_000, witnessed).ok()
 }
 
-/// Whether witnesses leave less than one in so many of these.
+/// Whether witnesses leave less than one in `many` of these questions.
 fn are_spared(alloc: Global, text: &str, many: u64) -> Option<bool> {
     let asked = asked_of_tables(alloc, text, true)?;
     let without = asked_of_tables(alloc, text, false)?;
     Some(asked.saturating_mul(many) < without)
 }
 
-/// Answers are the same with witnesses that aren't used, so only this shows it. When it was written, 24 of 1,032 were
-/// left for the hills; at least 152 if witnesses spare no cell that drops are looked for in, at least 448 if they spare
-/// only such cells. For the climbs 355 of 4,810 were left; 2,540 if witnesses are never asked about single values. So
-/// the choice of witnesses may change, but none of the three may be lost.
+/// Answers are the same with witnesses that aren't used, so only this shows it. For the hills 24 of 1,032 are left; at
+/// least 152 if witnesses spare no cell that drops are looked for in, at least 448 if they spare only such cells. For
+/// the climbs 355 of 4,810 are left; 2,540 if witnesses are never asked about single values. So the choice of witnesses
+/// may change, but none of the three may be lost.
 #[test]
 fn questions_that_witnesses_spare(rt: HostRuntime) {
     assert!(rt; are_spared(rt.alloc(), HILLS, 10) == Some(true));

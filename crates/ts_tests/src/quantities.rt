@@ -40,7 +40,7 @@ fn is_budget(word: &[u8], wanted: Option<u32>) -> bool {
     }
 }
 
-/// Whether it is this count, or none.
+/// Whether the word is this count, or none.
 fn is_count(word: &[u8], wanted: Option<u32>) -> bool {
     match Count::of(word) {
         Some(count) => wanted == Some(count.series()),
@@ -48,7 +48,7 @@ fn is_count(word: &[u8], wanted: Option<u32>) -> bool {
     }
 }
 
-/// Whether it is this number of cells, or none.
+/// Whether the word is this number of cells, or none.
 fn are_cells(word: &[u8], wanted: Option<u32>) -> bool {
     match Cells::of(word) {
         Some(cells) => wanted == Some(cells.cells()),

@@ -21,7 +21,7 @@ fn losses() -> &'static [(i64, i64, u32, i64)] {
     &LOSSES
 }
 
-/// Whether the one cell has so many numbers.
+/// Whether the one cell has this many numbers.
 fn has_count(cells: &Boxed, count: u64) -> bool
     ensures { IsTrue result → (length cells.now.present ≡ 1) × (length (cell_of 1 cells.now) ≡ count) }
 {
@@ -118,7 +118,7 @@ fn loses_each_second(cells: &mut Boxed) -> Result<bool, Memory> {
     Ok(true)
 }
 
-/// Goes back to where so many pairs had lost their second number.
+/// Goes back to where `pairs` pairs had lost their second number.
 fn comes_back(alloc: Global, cells: &mut Boxed, pairs: u16) -> Result<bool, Memory> {
     let wanted = plain_list(alloc, i64::from(pairs))?;
     Ok(goes_back(cells, usize::from(pairs)) && has_list(cells, &wanted))

@@ -1,4 +1,4 @@
-//! What the calls of `ts_filter` tell of a box, against its spans: all comparisons with ten bounds, and both goals.
+//! What the calls of `ts_filter` answer of a box, against its spans: all comparisons with ten bounds, and both goals.
 
 ghost use Rattle.std.specs.Prelude.{◌≡◌, ◌≤◌, None, length};
 ghost use Rattle.ts_bound.specs.TermSpans.{LooksIn, automata_of};
@@ -43,7 +43,7 @@ const BOUNDS: [Ext; 10] = [
 
 const GOALS: [Goal; 2] = [Goal::Maximise, Goal::Minimise];
 
-/// Whether the requirements and both goals are told at a cell as its span has it.
+/// Whether the requirements and both goals are answered at a cell as its span has it.
 fn bound_holds(
     alloc: Global,
     m: &Machine,
@@ -90,7 +90,7 @@ pub(super) fn cell_holds(
     Ok(true)
 }
 
-/// Whether the requirements are told as the span has it, where a cell has this value alone: a bound and the span.
+/// Whether the requirements are answered as the span has it, where a cell has this value alone: a bound and the span.
 fn value_bound_holds(
     alloc: Global,
     m: &Machine,
@@ -137,7 +137,7 @@ pub(super) fn value_holds(
     Ok(true)
 }
 
-/// Whether nothing better, and nothing as good, is told as the span at the last cell has it.
+/// Whether nothing better, and nothing as good, is answered as the span at the last cell has it.
 pub(super) fn end_holds(
     alloc: Global,
     m: &Machine,
@@ -244,7 +244,7 @@ fn first_bound_holds(
     Ok(true)
 }
 
-/// Whether the first cells below the last are told as their spans have it.
+/// Whether the first cells below the last are answered as their spans have it.
 pub(super) fn first_cells_hold(alloc: Global, m: &Machine, cells: &Boxed) -> Result<bool, Fail>
     requires { LooksIn (automata_of m.now) cells.now.present }
 {

@@ -30,7 +30,7 @@ fn op_of(written: &str) -> Option<Op> {
     }
 }
 
-/// A requirement on one of so many terms.
+/// A requirement on one of this many terms.
 fn requirement_of(written: &str, terms: u32) -> Option<Require>
     ensures { IfSome result (λ (r : Require). r.term < terms) }
 {
@@ -44,7 +44,7 @@ fn requirement_of(written: &str, terms: u32) -> Option<Require>
     }
 }
 
-/// Fewer than nine requirements on so many terms.
+/// Fewer than nine requirements on this many terms.
 fn requirements_of(alloc: Global, written: &str, terms: u32) -> Option<Vec<Require>>
     ensures few { IfSome result (λ v. length v.items < too_many) }
     ensures terms { IfSome result (λ v. AllByRecursion (λ (r : Require). r.term < terms) v.items) }
@@ -97,7 +97,7 @@ fn drops_so(
     Ok(is_drop(found, first) && is_drop(by_kept, first))
 }
 
-/// By requirements on the one term.
+/// Whether the first drop by requirements on the one term is the one that is written.
 pub(super) fn drop_holds(
     alloc: Global,
     m: &Machine,
@@ -122,7 +122,7 @@ fn widths(alloc: Global) -> Result<[Machine; 3], Fail>
     ])
 }
 
-/// By requirements on these three.
+/// Whether the first drop by requirements on the automata of the widths of peaks is the one that is written.
 pub(super) fn drop_of_widths_holds(
     alloc: Global,
     cells: &Boxed,

@@ -1,4 +1,4 @@
-//! What a checker tells before each line of a certificate, and its verdict. More verdicts are in `examples/rows`.
+//! What a checker reports before each line of a certificate, and its verdict. More verdicts are in `examples/rows`.
 
 ghost use Rattle.std.specs.Prelude.{◌≡◌, IfOk, OnOk, false};
 
@@ -12,7 +12,8 @@ use ts_model::{Need, read_model};
 /// A model: three cells of 0 and 1, and the peaks counted.
 static PEAKS: &str = "cells 3\ndomain 0..1\nterm c = count peak\nobjective c\n";
 
-/// A line of a certificate for `PEAKS`; before it so many boxes wait, and this line was the first that broke its rule.
+/// A line of a certificate for `PEAKS`, how many boxes wait before it, and the first line that has broken its rule
+/// then.
 type Step = (&'static str, u64, Option<u32>);
 
 /// Lines, how many boxes wait after them, the first line that broke its rule, and the verdict.
@@ -82,14 +83,14 @@ fn checker_of(alloc: Global, model: &str) -> Result<Checker, Memory>
     }
 }
 
-/// Whether a checker tells so many boxes and this line.
+/// Whether a checker reports this many boxes and this line.
 fn tells(checker: &Checker, waiting: u64, broken: Option<u32>) -> bool
     requires { checker.now.missing ≡ false }
 {
     checker.waiting() == waiting && checker.broken_line() == broken
 }
 
-/// Feeds the lines of rows, up to the first one before whose line the checker tells something else.
+/// Feeds the lines of rows, up to the first one before whose line the checker reports something else.
 fn first_other(checker: &mut Checker, rows: &[Step]) -> Result<Option<usize>, Memory>
     requires { checker.old.missing ≡ false }
     ensures { OnOk result (checker.new.missing ≡ false) }
@@ -104,7 +105,7 @@ fn first_other(checker: &mut Checker, rows: &[Step]) -> Result<Option<usize>, Me
     Ok(None)
 }
 
-/// The first row before whose line the checker tells something else; their number where it does after them.
+/// The first row before whose line the checker reports something else; their number where it does after them.
 fn first_wrong_step(alloc: Global, steps: &Steps) -> Result<Option<usize>, Memory> {
     let &(rows, waiting, broken, verdict) = steps;
     let mut checker = checker_of(alloc, peaks())?;

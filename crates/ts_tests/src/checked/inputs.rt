@@ -186,7 +186,7 @@ fn feeds() -> &'static [(&'static str, Option<u32>)] {
 /// Rows have no longer texts, and lists no more rows.
 const MOST: usize = 1_000_000;
 
-/// Feeds a text to a new verifier, in pieces of so many bytes.
+/// Feeds a text to a new verifier, in pieces of `size` bytes.
 fn feed_all(verifier: &mut Verifier, text: &[u8], size: usize) -> Result<(), Memory>
     requires calm { verifier.old.missing ≡ false }
     requires none { verifier.old.count ≡ 0 }
@@ -203,7 +203,7 @@ fn feed_all(verifier: &mut Verifier, text: &[u8], size: usize) -> Result<(), Mem
     Ok(())
 }
 
-/// A verifier that was fed a text in pieces of so many bytes.
+/// A verifier that was fed a text in pieces of `size` bytes.
 fn fed(alloc: Global, text: &[u8], size: usize) -> Result<Verifier, Memory>
     requires some { 0 < size }
     requires few { length text.now < 2000000 }
@@ -225,7 +225,7 @@ fn filled(alloc: Global, head: &str, word: &str, tail: &str) -> Result<Vec<u8>, 
     Ok(text)
 }
 
-/// Whether a text in pieces of so many bytes ends so and this line has failed before.
+/// Whether a text in pieces of `size` bytes ends in this way and this line has failed before.
 fn ends_in_pieces(
     alloc: Global,
     text: &[u8],
@@ -242,7 +242,7 @@ fn ends_in_pieces(
     Ok(failed_so && ended == end)
 }
 
-/// Whether an input ends so and this line has failed before, wherever it is cut.
+/// Whether an input ends as its row says and the line has failed before, wherever it is cut.
 fn ends_so(alloc: Global, input: &Input) -> Result<bool, Memory> {
     let (head, word, tail, end, failed) = *input;
     let text = filled(alloc, head, word, tail)?;
