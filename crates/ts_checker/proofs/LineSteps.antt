@@ -45,14 +45,14 @@ tree_answered m s aim claim items listed boxes told l a c b now (Ok t) is_aim is
 
 -- a line that keeps its rule on the present box may be followed there
 pub may_step : (t : Standing) (line : TreeLine) (b : Box) → IsTrue t.frontier.ready → t.frontier.boxes ≡ b ∷ rest t.frontier.boxes → MakesBoxes line b →
-    (line ≡ Yes → t.told < length t.series.items) → MayStep t line
+    (line ≡ Yes → t.reported < length t.series.items) → MayStep t line
 may_step t line b ready front may told =
     let one : first t.frontier.boxes ≡ b = ap first front in
     record {
       ready = ready;
       front = front ∙ ap (λ z. z ∷ rest t.frontier.boxes) (sym one);
       fits = subst (MakesBoxes line) (sym one) may;
-      told = told;
+      reported = told;
     }
 
 -- a `yes` that keeps its rule has a listed series
@@ -63,13 +63,13 @@ yes_below m s h told b l k is =
 -- where the rule of a tree line is kept, it may be followed
 pub tree_may : (m : ModelParts) (s : Spans) (a : Aim) (c : Claim) (listed : List (Vec ℤ)) (b : Box) (t : Standing) (l : TreeLine) (r : Result Bool Memory) →
     IsTrue t.frontier.ready → t.frontier.boxes ≡ b ∷ rest t.frontier.boxes → listed ≡ t.series.items →
-    IfOk r (λ keeps. IsTrue keeps ↔ KeepsRule m s (record { aim = a; claim = c; series = series_of listed }) t.told b l) →
+    IfOk r (λ keeps. IsTrue keeps ↔ KeepsRule m s (record { aim = a; claim = c; series = series_of listed }) t.reported b l) →
     IfOk r (λ keeps. IsTrue keeps → MakesBoxes l b) → IfOk r (λ keeps. IsTrue keeps → MayStep t l)
 tree_may m s a c listed b t l (Err e) ready front lent keeps may = tt
 tree_may m s a c listed b t l (Ok k) ready front lent keeps may = λ kept.
     may_step t l b ready front (may kept) (λ is.
-    let below = yes_below m s (record { aim = a; claim = c; series = series_of listed }) t.told b l (keeps.0 kept) is in
-    subst (λ n. t.told < n) (length-map listed (λ x. x.items) ∙ ap length lent) below)
+    let below = yes_below m s (record { aim = a; claim = c; series = series_of listed }) t.reported b l (keeps.0 kept) is in
+    subst (λ n. t.reported < n) (length-map listed (λ x. x.items) ∙ ap length lent) below)
 
 -- a line that was read as a tree line
 pub as_tree : (m : ModelParts) (s : Spans) (t : Stand) (p : Parsed) (l : TreeLine) (r : Result Bool Memory) → p ≡ Tree l →

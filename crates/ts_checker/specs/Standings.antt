@@ -18,7 +18,7 @@ stand_of t = record {
   claim = t.claim;
   series = series_of t.series.items;
   waiting = t.frontier.boxes;
-  told = t.told;
+  told = t.reported;
 }
 
 -- where lines have led, with no box that waits any more
@@ -30,7 +30,7 @@ pub record MayStep (t : Standing) (line : TreeLine) : Type 0 where
   pub ready : IsTrue t.frontier.ready
   pub front : t.frontier.boxes ≡ first t.frontier.boxes ∷ rest t.frontier.boxes
   pub fits : MakesBoxes line (first t.frontier.boxes)
-  pub told : line ≡ Yes → t.told < length t.series.items
+  pub reported : line ≡ Yes → t.reported < length t.series.items
 
 abbrev pub MayTake : Standing → Parsed → Type 0
 MayTake t (Aim a) = Unit {0}

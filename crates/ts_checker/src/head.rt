@@ -119,11 +119,11 @@ fn is_before(earlier: &[i64], later: &[i64]) -> bool
 }
 
 /// Whether in a listing each series had its `yes`.
-pub(crate) fn all_told(aim: Aim, told: usize, listed: usize) -> bool
-    ensures { IsTrue result ↔ AllTold aim told listed }
+pub(crate) fn all_reported(aim: Aim, reported: usize, listed: usize) -> bool
+    ensures { IsTrue result ↔ AllTold aim reported listed }
 {
     match aim {
         Aim::Best(_) => true,
-        Aim::List(_) => told == listed,
+        Aim::List(_) => reported == listed,
     }
 }

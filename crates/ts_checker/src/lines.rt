@@ -12,7 +12,7 @@ ghost use Rattle.ts_spans.specs.Machines.{spans_in};
 ghost use Rattle.ts_checker.specs.Standings.{AreValues, MayStep, MayTake, stand_of};
 ghost use Rattle.ts_checker.specs.Subjects.{AreSized, AreTables, series_of};
 
-use crate::head::{aim_fits, all_told, claim_fits, series_fits};
+use crate::head::{aim_fits, all_reported, claim_fits, series_fits};
 use crate::rules::keeps_rule;
 use crate::standing::Standing;
 use crate::subject::Head;
@@ -91,7 +91,7 @@ fn keeps_tree(
     ensures same { stand_of standing.new ≡ stand_of standing.old }
     ensures keeps { IfOk result (λ keeps. IsTrue keeps
         ↔ KeepsTreeRule (model_parts model.now) (spans_in (model_parts model.now)) standing.old.aim standing.old.claim
-        (series_of standing.old.series.items) standing.old.frontier.boxes standing.old.told line) }
+        (series_of standing.old.series.items) standing.old.frontier.boxes standing.old.reported line) }
     ensures may { IfOk result (λ keeps. IsTrue keeps → MayStep standing.new line) }
 {
     let (Some(aim), Some(claim)) = (standing.aim, standing.claim) else {
@@ -104,7 +104,7 @@ fn keeps_tree(
         aim,
         claim,
         series: &standing.series,
-        told: standing.told,
+        reported: standing.reported,
     };
     keeps_rule(
         alloc,
@@ -119,11 +119,12 @@ fn keeps_tree(
 /// Whether nothing waits, and in a listing each series had its `yes`.
 fn keeps_end(standing: &Standing) -> bool
     ensures { IsTrue result ↔ MatchOption standing.now.aim ⊥ (λ aim. (standing.now.frontier.boxes ≡ [])
-        × AllTold aim standing.now.told (length (series_of standing.now.series.items))) }
+        × AllTold aim standing.now.reported (length (series_of standing.now.series.items))) }
 {
     match standing.aim {
         Some(aim) => {
-            standing.frontier.is_empty() && all_told(aim, standing.told, standing.series.len())
+            standing.frontier.is_empty()
+                && all_reported(aim, standing.reported, standing.series.len())
         }
         None => false,
     }

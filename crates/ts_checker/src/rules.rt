@@ -33,7 +33,7 @@ pub(crate) fn keeps_rule(
     ensures machines { tables.new.machines ≡ tables.old.machines }
     ensures keeps { IfOk result
         (λ keeps. IsTrue keeps ↔ KeepsRule (model_parts model.now) (spans_in (model_parts model.now))
-        (head_in head.now) head.now.told b.now.present line) }
+        (head_in head.now) head.now.reported b.now.present line) }
     ensures may { IfOk result (λ keeps. IsTrue keeps → MakesBoxes line b.now.present) }
 {
     match line {
@@ -141,9 +141,9 @@ fn may_be_worse(
 
 /// `yes`: in a listing, the box is the next listed series alone.
 fn is_next(head: &Head, b: &Boxed) -> bool
-    ensures { IsTrue result ↔ IsNext (head_in head.now) head.now.told b.now.present }
+    ensures { IsTrue result ↔ IsNext (head_in head.now) head.now.reported b.now.present }
 {
-    match (head.aim, head.series.get(head.told)) {
+    match (head.aim, head.series.get(head.reported)) {
         (Aim::List(_), Some(series)) => is_box_of(b, series),
         _ => false,
     }

@@ -19,7 +19,7 @@ pub(crate) struct Standing {
     pub claim: Option<Claim>,
     pub series: Vec<Vec<i64>>,
     pub frontier: Frontier,
-    pub told: usize,
+    pub reported: usize,
 }
 
 impl Standing {
@@ -33,7 +33,7 @@ impl Standing {
             claim: None,
             series: Vec::new(alloc),
             frontier: Frontier::new(alloc, root),
-            told: 0,
+            reported: 0,
         }
     }
 
@@ -70,7 +70,7 @@ impl Standing {
     {
         follow(&mut self.frontier, &line)?;
         if line == TreeLine::Yes {
-            self.told += 1;
+            self.reported += 1;
         }
         Ok(())
     }

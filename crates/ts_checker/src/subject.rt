@@ -19,7 +19,7 @@ pub(crate) struct Head<'a> {
     pub aim: Aim,
     pub claim: Claim,
     pub series: &'a [Vec<i64>],
-    pub told: usize,
+    pub reported: usize,
 }
 
 /// Requirement `j` of these, counted from 1.

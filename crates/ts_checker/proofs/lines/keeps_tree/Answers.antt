@@ -8,7 +8,7 @@ pub returns-clause-keeps : goal.returns-clause-keeps
 returns-clause-keeps c =
     let t = c.args.standing.now in
     tree_answered (model_parts c.args.model.now) (spans_in (model_parts c.args.model.now)) t.aim t.claim t.series.items c.deref.result.now t.frontier.boxes
-    t.told
+    t.reported
     c.args.line c.in-Some-Some.aim c.in-Some-Some.claim c.present.result.now.present _ c.keeps_rule.result c.in-Some-Some.is-0 c.in-Some-Some.is-1
     c.deref.ensures.value c.in_ok-advance.ensures.same c.present.ensures c.keeps_rule.ensures.keeps
 
