@@ -11,7 +11,7 @@ use Rattle.ts_filter.specs.RefutedWorseDrop.{Spans}
 use Rattle.ts_search.specs.Dive.{dive_box, value_of}
 use Rattle.ts_frontier.specs.Forms.{Form, Alone, Wide, form}
 use Rattle.ts_search.specs.Laws.{SearchSolves, SearchLists, OneSolved, OneListed, BudgetIsEnough, ListBudgetIsEnough, DropsEnd, DiveEnds, DiveMeets, DiveEndsEarly}
-use Rattle.ts_search.specs.Lean.{AreLean, most_told, Lean}
+use Rattle.ts_search.specs.Lean.{AreLean, most_reported, Lean}
 use Rattle.ts_search.specs.Listed.{IsListAnswer}
 use Rattle.ts_search.specs.LineOf.{TheBest, TheFirst, search_for, contest_for, sought_for}
 use Rattle.ts_search.specs.Solved.{IsSolution}
@@ -27,8 +27,8 @@ use Rattle.ts_search.proofs.Solves.{HasClaim, solve_solves}
 use Rattle.ts_search.proofs.Unique.{solve_lean, one_certificate, no_budget}
 
 to_lean : (m : ModelParts) (s : Spans) (a : Cert) (aim : Aim) → a.aim ≡ aim →
-    AreLean (sought_for m s aim) (most_told a.claim) false 0 (m.cells ∷ []) a.tree → Lean m s a
-to_lean m s a aim e h = subst (λ z. AreLean (sought_for m s z) (most_told a.claim) false 0 (m.cells ∷ []) a.tree) (sym e) h
+    AreLean (sought_for m s aim) (most_reported a.claim) false 0 (m.cells ∷ []) a.tree → Lean m s a
+to_lean m s a aim e h = subst (λ z. AreLean (sought_for m s z) (most_reported a.claim) false 0 (m.cells ∷ []) a.tree) (sym e) h
 
 pub search_solves : SearchSolves
 search_solves m s goal n right some =
@@ -64,15 +64,15 @@ module _ (m : ModelParts) (s : Spans) where
   has_claim goal n a h = record { aim = h.aim; accepts = h.accepts; within = h.within; claim = h.claim }
 
   lean_for : (goal : Goal) (n : ℕ) (a : Cert) → IsSolution m s goal n a →
-      AreLean (TheBest (contest_for m s goal) None) (most_told a.claim) false 0 (m.cells ∷ []) a.tree
-  lean_for goal n a h = subst (λ z. AreLean (sought_for m s z) (most_told a.claim) false 0 (m.cells ∷ []) a.tree) h.aim h.lean
+      AreLean (TheBest (contest_for m s goal) None) (most_reported a.claim) false 0 (m.cells ∷ []) a.tree
+  lean_for goal n a h = subst (λ z. AreLean (sought_for m s z) (most_reported a.claim) false 0 (m.cells ∷ []) a.tree) h.aim h.lean
 
   has_list : (count n : ℕ) (a : Cert) → IsListAnswer m s count n a → HasList (search_for m s) count n a
   has_list count n a h = record { aim = h.aim; accepts = h.accepts; within = h.within; first = h.first; claim = h.claim }
 
   list_lean_for : (count n : ℕ) (a : Cert) → IsListAnswer m s count n a →
-      AreLean (TheFirst (search_for m s)) (most_told a.claim) false 0 (m.cells ∷ []) a.tree
-  list_lean_for count n a h = subst (λ z. AreLean (sought_for m s z) (most_told a.claim) false 0 (m.cells ∷ []) a.tree) h.aim h.lean
+      AreLean (TheFirst (search_for m s)) (most_reported a.claim) false 0 (m.cells ∷ []) a.tree
+  list_lean_for count n a h = subst (λ z. AreLean (sought_for m s z) (most_reported a.claim) false 0 (m.cells ∷ []) a.tree) h.aim h.lean
 
 pub one_solved : OneSolved
 one_solved m s goal n a b right some p q =

@@ -23,7 +23,7 @@ use Rattle.ts_filter.proofs.SoundLaws.{clash}
 use Rattle.ts_filter.proofs.KeptLaws.{better_trans}
 use Rattle.ts_search.specs.Dive.{Find, value_of, find}
 use Rattle.ts_frontier.specs.Forms.{Form, Alone, Wide, form}
-use Rattle.ts_search.specs.Found.{beats, tally_after, tally, told_or_warm}
+use Rattle.ts_search.specs.Found.{beats, tally_after, tally, reported_or_warm}
 use Rattle.ts_search.specs.LineOf.{Contest, TheBest, last, requirements, is_refuted_at, is_cut_at, bar_of, cut_by, counts_for, line_of}
 use Rattle.ts_search.specs.Turns.{State, start, found_after, after, turn_on, turn, turns, found_or_warm, budget_claim}
 use Rattle.ts_search.proofs.Choice.{Choice, by_refuted, by_cut, by_new, by_yes, by_drop, by_split, line_choice}
@@ -224,7 +224,7 @@ module _ (c : Contest) where
         | false ↦ λ e k. ap (λ t. cond t None (Some g)) (sym e) ∙ ap (λ t. kept c (cond t (Some new) (Some g)) (Some w)) (sym k)
       ] refl h
 
-  pub found_is_best : (f warm : Option Find) → told_or_warm c f warm ≡ found_or_warm (kept c f warm) warm
+  pub found_is_best : (f warm : Option Find) → reported_or_warm c f warm ≡ found_or_warm (kept c f warm) warm
   found_is_best None warm = refl
   found_is_best (Some g) None = refl
   found_is_best (Some g) (Some w) =

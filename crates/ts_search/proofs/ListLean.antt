@@ -7,7 +7,7 @@ use Rattle.ts_filter.specs.Steps.{made_by, Steps}
 use Rattle.ts_filter.specs.Tree.{told_by}
 use Rattle.ts_search.specs.Drops.{or_later, next_drop}
 use Rattle.ts_frontier.specs.Forms.{Form, Alone, Wide, form}
-use Rattle.ts_search.specs.Lean.{IsFree, IsLeanLine, StandsInTime, or_open, sought_after, AreLean, most_told}
+use Rattle.ts_search.specs.Lean.{IsFree, IsLeanLine, StandsInTime, or_open, sought_after, AreLean, most_reported}
 use Rattle.ts_search.specs.LineOf.{Search, Sought, TheFirst, last, requirements, refuted_last, first_no, branch_line, form_line, line_of}
 use Rattle.ts_search.specs.Turns.{ListState, list_turn_on, list_turn, list_turns, list_start, left_open, list_claim, list_certificate}
 use Rattle.ts_search.proofs.Known.{Known}
@@ -86,14 +86,14 @@ no_limit q count (l ∷ ls) o y (b ∷ w) n = (
 
 as_claimed : (c : Search) (count k : ℕ) (ls : List TreeLine) (t : Bool) (w : List Box) → (t ≡ false → count ≡ k) →
     AreLean (TheFirst c) (Some count) false 0 (c.model.cells ∷ []) ls →
-    AreLean (TheFirst c) (most_told (list_claim t k w)) false 0 (c.model.cells ∷ []) ls
+    AreLean (TheFirst c) (most_reported (list_claim t k w)) false 0 (c.model.cells ∷ []) ls
 as_claimed c count k ls false w e n = subst (λ z. AreLean (TheFirst c) (Some z) false 0 (c.model.cells ∷ []) ls) (e refl) n
 as_claimed c count k ls true [] e n = no_limit (TheFirst c) count ls false 0 (c.model.cells ∷ []) n
 as_claimed c count k ls true (b ∷ w) e n = no_limit (TheFirst c) count ls false 0 (c.model.cells ∷ []) n
 
 pub list_lean : (c : Search) (count n : ℕ) → Known c →
     let a = list_certificate count (list_turns c count n (list_start c)) in
-    AreLean (TheFirst c) (most_told a.claim) false 0 (c.model.cells ∷ []) a.tree
+    AreLean (TheFirst c) (most_reported a.claim) false 0 (c.model.cells ∷ []) a.tree
 list_lean c count n k =
     let all = c.model.cells ∷ [] in
     let s = list_turns c count n (list_start c) in

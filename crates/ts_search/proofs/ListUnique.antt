@@ -22,7 +22,7 @@ use Rattle.ts_filter.proofs.Answered.{told_more}
 use Rattle.ts_search.specs.Drops.{or_later}
 use Rattle.ts_frontier.specs.Forms.{Form, Alone, Wide, form}
 use Rattle.ts_search.specs.Laws.{IsBudget}
-use Rattle.ts_search.specs.Lean.{IsFree, IsLeanLine, InTime, StandsInTime, sought_after, AreLean, most_told}
+use Rattle.ts_search.specs.Lean.{IsFree, IsLeanLine, InTime, StandsInTime, sought_after, AreLean, most_reported}
 use Rattle.ts_search.specs.LineOf.{Search, Sought, TheFirst, last, requirements, is_refuted_at, refuted_last, first_no, removal_line, branch_line, form_line, line_of}
 use Rattle.ts_search.specs.Listed.{IsListedBy}
 use Rattle.ts_search.proofs.Choice.{LeastFits, least_fits}
@@ -263,7 +263,7 @@ module _ (m : ModelParts) (count n : ℕ) where
   list_spent (BudgetList j) xs ls l k p = inl l.2
 
   list_room : (claim : Claim) (xs : List (List ℤ)) (ls : List TreeLine) → IsListedBy m count n claim xs ls →
-      (most_told claim ≡ Some count) ⊎ (length xs < count)
+      (most_reported claim ≡ Some count) ⊎ (length xs < count)
   list_room (Best v) xs ls l = absurd l
   list_room Infeasible xs ls l = absurd l
   list_room (BudgetBest v) xs ls l = absurd l
@@ -309,10 +309,10 @@ module _ (c : Search) (e : Known c) (count n : ℕ) where
       subst (λ z. Steps c.model c.spans (head_of a) (c.model.cells ∷ []) 0 a.tree [] z) all (steps_of c.model c.spans a t)
 
   abbrev IsLean : Cert → Type 0
-  IsLean a = AreLean (TheFirst c) (most_told a.claim) false 0 (c.model.cells ∷ []) a.tree
+  IsLean a = AreLean (TheFirst c) (most_reported a.claim) false 0 (c.model.cells ∷ []) a.tree
 
   list_rest : (a : Cert) → HasList c count n a → IsLean a →
-      ListRest c count (head_of a) (most_told a.claim) false 0 (length a.series) n (c.model.cells ∷ []) a.tree
+      ListRest c count (head_of a) (most_reported a.claim) false 0 (length a.series) n (c.model.cells ∷ []) a.tree
   list_rest a l lean = record {
     claim = list_claimed c.model count n a.claim a.series a.tree l.claim;
     meet = l.first.meet;
@@ -333,7 +333,7 @@ module _ (c : Search) (e : Known c) (count n : ℕ) where
       let lb = length b.series in
       let sa = list_steps a p in
       let sb = list_steps b q in
-      let trees = same_lists c count e h g (most_told a.claim) (most_told b.claim) la lb a.tree b.tree false 0 n all (part_self c.model.cells e.box, tt)
+      let trees = same_lists c count e h g (most_reported a.claim) (most_reported b.claim) la lb a.tree b.tree false 0 n all (part_self c.model.cells e.box, tt)
       (list_rest a p lean) (list_rest b q also) in
       let sc = subst (λ z. Steps c.model c.spans h all 0 z [] la) trees sa in
       let long = same_count c.model c.spans h g b.tree 0 all [] [] la lb sc sb in

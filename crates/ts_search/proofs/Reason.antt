@@ -17,7 +17,7 @@ use Rattle.ts_search.specs.Dive.{Find}
 use Rattle.ts_filter.specs.declared.drops.Removal.{Removal}
 use Rattle.ts_search.specs.Drops.{least, or_later, next_drop}
 use Rattle.ts_frontier.specs.Forms.{Form, Alone, Wide, form}
-use Rattle.ts_search.specs.Lean.{below_told, below_warm, below, worse_line, last_worse, inner_reason, first_reason, IsFree, IsLeanLine}
+use Rattle.ts_search.specs.Lean.{below_reported, below_warm, below, worse_line, last_worse, inner_reason, first_reason, IsFree, IsLeanLine}
 use Rattle.ts_search.specs.LineOf.{Search, Contest, Sought, TheBest, search_in, last, requirements, inner, is_refuted_at, is_cut_at, bar_of, cut_by, refuted_last, no_line, first_no, removal_line, branch_line, wide_line, form_line, line_of}
 use Rattle.ts_search.proofs.Choice.{LeastFits, least_fits}
 use Rattle.ts_search.proofs.Good.{kept}
@@ -36,7 +36,7 @@ implies false y h = refl
 
 -- one bar says what the reported value and the warm value say together
 pub one_bar : (c : Contest) (p : ℕ) (b : Box) (f warm : Option Find) →
-    (below_told c f p b || below_warm c warm p b) ≡ cut_by c (bar_of (kept c f warm) warm) p b
+    (below_reported c f p b || below_warm c warm p b) ≡ cut_by c (bar_of (kept c f warm) warm) p b
 one_bar c p b None None = refl
 one_bar c p b None (Some w) = refl
 one_bar c p b (Some f) None = implied (is_cut_at c p b (Better f.value)) false (λ e. absurd (let k : ◌≡◌ {A = Bool} false true = e in cc))

@@ -17,7 +17,7 @@ use Rattle.ts_filter.specs.Rules.{Head, claimed_value, MayStayOpen, KeepsRule, I
 use Rattle.ts_filter.specs.Steps.{Steps}
 use Rattle.ts_filter.proofs.TreeLaws.{tree_is_steps, steps_go_on}
 use Rattle.ts_search.specs.Dive.{Find, value_of}
-use Rattle.ts_search.specs.Found.{tally, told_or_warm, found_in}
+use Rattle.ts_search.specs.Found.{tally, reported_or_warm, found_in}
 use Rattle.ts_search.specs.LineOf.{Contest, TheBest, line_of}
 use Rattle.ts_search.specs.Solved.{IsSolvedBy}
 use Rattle.ts_search.specs.Turns.{State, turn_on, turn, turns, start, left_open, found_or_warm, series_of, budget_claim, solve_certificate}
@@ -227,7 +227,7 @@ solved_end c e some n ls (b ∷ u) found g few end =
     (best_fits c e found (b ∷ u) g.found_ok)
     (checked_open ls (b ∷ u) g.all_checked ∙ full)
     (omega arith)
-    (ap (λ z. told_or_warm c z c.warm) (tally_open c (b ∷ u) ls None all)
+    (ap (λ z. reported_or_warm c z c.warm) (tally_open c (b ∷ u) ls None all)
     ∙ found_is_best c (tally c None all ls) c.warm
     ∙ ap (λ z. found_or_warm z c.warm) (sym g.found_is))
 

@@ -24,7 +24,7 @@ use Rattle.ts_search.specs.Dive.{Find}
 use Rattle.ts_frontier.specs.Forms.{form}
 use Rattle.ts_search.specs.Found.{tally_after, tally}
 use Rattle.ts_search.specs.Laws.{IsBudget}
-use Rattle.ts_search.specs.Lean.{StandsInTime, or_open, IsLeanLine, sought_after, AreLean, most_told}
+use Rattle.ts_search.specs.Lean.{StandsInTime, or_open, IsLeanLine, sought_after, AreLean, most_reported}
 use Rattle.ts_search.specs.LineOf.{Search, Contest, Sought, TheBest, TheFirst, line_of}
 use Rattle.ts_search.specs.Solved.{IsSolvedBy}
 use Rattle.ts_search.specs.Turns.{State, turn_on, turn, turns, start, left_open, found_or_warm, budget_claim, solve_head, solve_certificate}
@@ -112,18 +112,18 @@ module _ (c : Contest) (e : KnownBest c) where
   lean_turns (suc n) s g l =
       lean_turns n (turn c s) (good_turn c e s g s.pending refl) (lean_turn s g s.pending refl l)
 
-  none_told : (found : Option Find) (w : List Box) → None ≡ most_told (solve_head c found w).claim
+  none_told : (found : Option Find) (w : List Box) → None ≡ most_reported (solve_head c found w).claim
   none_told None [] = refl
   none_told (Some f) [] = refl
   none_told found (b ∷ w) = go (found_or_warm found c.warm)
     where
-      go : (o : Option Find) → None ≡ most_told (budget_claim o)
+      go : (o : Option Find) → None ≡ most_reported (budget_claim o)
       go None = refl
       go (Some f) = refl
 
   pub solve_lean : (n : ℕ) →
       let s = turns c n (start c) in
-      AreLean (TheBest c None) (most_told (solve_certificate c s).claim) false 0 (c.search.model.cells ∷ []) (solve_certificate c s).tree
+      AreLean (TheBest c None) (most_reported (solve_certificate c s).claim) false 0 (c.search.model.cells ∷ []) (solve_certificate c s).tree
   solve_lean n =
       let all = c.search.model.cells ∷ [] in
       let s = turns c n (start c) in
@@ -333,7 +333,7 @@ same_certificate a b p q r t =
 
 module _ (c : Contest) (k : Known c.search) (n : ℕ) where
   abbrev IsLean : Cert → Type 0
-  IsLean a = AreLean (TheBest c None) (most_told a.claim) false 0 (c.search.model.cells ∷ []) a.tree
+  IsLean a = AreLean (TheBest c None) (most_reported a.claim) false 0 (c.search.model.cells ∷ []) a.tree
 
   closed_of : (a : Cert) → HasClaim c n a → (MayStayOpen a.claim → ⊥) → open_count a.tree ≡ 0
   closed_of a s none =
@@ -341,7 +341,7 @@ module _ (c : Contest) (k : Known c.search) (n : ℕ) where
       (steps_of c.search.model c.search.spans a s.accepts.tree)
 
   rest_of : (a : Cert) (s : HasClaim c n a) → IsLean a →
-      Rest c (head_of a) (most_told a.claim) None false 0 (told_after s.accepts.tree.tree 0) n (c.search.model.cells ∷ []) a.tree
+      Rest c (head_of a) (most_reported a.claim) None false 0 (told_after s.accepts.tree.tree 0) n (c.search.model.cells ∷ []) a.tree
   rest_of a s l = record {
     aim = s.aim;
     steps = steps_of c.search.model c.search.spans a s.accepts.tree;
@@ -353,7 +353,7 @@ module _ (c : Contest) (k : Known c.search) (n : ℕ) where
   -- the rules leave no line to choose
   pub one_certificate : (a b : Cert) → HasClaim c n a → IsLean a → HasClaim c n b → IsLean b → a ≡ b
   one_certificate a b s l t m =
-      let trees = same_trees c (head_of a) (head_of b) (most_told a.claim) (most_told b.claim) (told_after s.accepts.tree.tree 0)
+      let trees = same_trees c (head_of a) (head_of b) (most_reported a.claim) (most_reported b.claim) (told_after s.accepts.tree.tree 0)
       (told_after t.accepts.tree.tree 0)
       a.tree b.tree None false 0 n (c.search.model.cells ∷ []) (part_self c.search.model.cells k.box, tt) (rest_of a s l) (rest_of b t m) in
       let claims = same_claim c n b.tree a.series b.series a.claim b.claim (subst (λ z. IsSolvedBy c n a.claim a.series z) trees s.claim) t.claim

@@ -34,11 +34,11 @@ tally c best [] (l ∷ ls) = best
 tally c best (b ∷ waiting) (l ∷ ls) = tally c (tally_after c best (form b) l) (made_by l b ++ waiting) ls
 
 -- the reported series, or the warm one where none is reported or the warm one is better
-abbrev pub told_or_warm : Contest → Option Find → Option Find → Option Find
-told_or_warm c None warm = warm
-told_or_warm c (Some f) None = Some f
-told_or_warm c (Some f) (Some w) = cond (is_better c.goal w.value f.value) (Some w) (Some f)
+abbrev pub reported_or_warm : Contest → Option Find → Option Find → Option Find
+reported_or_warm c None warm = warm
+reported_or_warm c (Some f) None = Some f
+reported_or_warm c (Some f) (Some w) = cond (is_better c.goal w.value f.value) (Some w) (Some f)
 
 -- the series that a tree for the model's box finds
 abbrev pub found_in : Contest → List TreeLine → Option Find
-found_in c ls = told_or_warm c (tally c None (c.search.model.cells ∷ []) ls) c.warm
+found_in c ls = reported_or_warm c (tally c None (c.search.model.cells ∷ []) ls) c.warm

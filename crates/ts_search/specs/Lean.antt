@@ -21,9 +21,9 @@ use Rattle.ts_search.specs.LineOf.{Contest, Sought, TheBest, TheFirst, search_in
 use Rattle.ts_search.specs.LineOf.{requirements, is_cut_at, refuted_last, first_no}
 
 -- the objective is not better at p than the best series reported before; where none was reported this holds nowhere
-abbrev pub below_told : Contest → Option Find → ℕ → Box → Bool
-below_told c None p b = false
-below_told c (Some f) p b = is_cut_at c p b (Better f.value)
+abbrev pub below_reported : Contest → Option Find → ℕ → Box → Bool
+below_reported c None p b = false
+below_reported c (Some f) p b = is_cut_at c p b (Better f.value)
 
 -- the objective isn't as good at p as the warm series; without a warm series this holds nowhere
 abbrev pub below_warm : Contest → Option Find → ℕ → Box → Bool
@@ -32,7 +32,7 @@ below_warm c (Some w) p b = is_cut_at c p b (AsGood w.value)
 
 -- the objective is below what was reported or is warm; a listing has no objective
 abbrev pub below : Sought → ℕ → Box → Bool
-below (TheBest c best) p b = below_told c best p b || below_warm c c.warm p b
+below (TheBest c best) p b = below_reported c best p b || below_warm c c.warm p b
 below (TheFirst c) p b = false
 
 abbrev pub worse_line : ℕ → Bool → Option TreeLine
@@ -78,15 +78,15 @@ IsLeanLine q b Unsearched = Unit {0}
 
 -- a checked line stands after no `open` line, and in `full C` not after `yes` line number C
 abbrev pub InTime : Option ℕ → Bool → ℕ → Type 0
-InTime most opened told = (opened ≡ false) × MatchOption most (Unit {0}) (λ count. told < count)
+InTime most opened reported = (opened ≡ false) × MatchOption most (Unit {0}) (λ count. reported < count)
 
 abbrev pub StandsInTime : Option ℕ → Bool → ℕ → TreeLine → Type 0
-StandsInTime most opened told (Split k t) = InTime most opened told
-StandsInTime most opened told (Remove k v j) = InTime most opened told
-StandsInTime most opened told (No j p) = InTime most opened told
-StandsInTime most opened told (Worse p) = InTime most opened told
-StandsInTime most opened told Yes = InTime most opened told
-StandsInTime most opened told Unsearched = Unit {0}
+StandsInTime most opened reported (Split k t) = InTime most opened reported
+StandsInTime most opened reported (Remove k v j) = InTime most opened reported
+StandsInTime most opened reported (No j p) = InTime most opened reported
+StandsInTime most opened reported (Worse p) = InTime most opened reported
+StandsInTime most opened reported Yes = InTime most opened reported
+StandsInTime most opened reported Unsearched = Unit {0}
 
 abbrev pub or_open : Bool → TreeLine → Bool
 or_open opened (Split k t) = opened
@@ -103,21 +103,21 @@ sought_after (TheFirst c) form l = TheFirst c
 
 -- the lines for the boxes that wait are lean; before them an `open` line stands or not, and a number of `yes` lines
 abbrev pub AreLean : Sought → Option ℕ → Bool → ℕ → List Box → List TreeLine → Type 0
-AreLean q most opened told waiting [] = Unit {0}
-AreLean q most opened told [] (l ∷ ls) = ⊥
-AreLean q most opened told (b ∷ waiting) (l ∷ ls) =
-    StandsInTime most opened told l × IsLeanLine q b l
-    × AreLean (sought_after q (form b) l) most (or_open opened l) (told_by l told) (made_by l b ++ waiting) ls
+AreLean q most opened reported waiting [] = Unit {0}
+AreLean q most opened reported [] (l ∷ ls) = ⊥
+AreLean q most opened reported (b ∷ waiting) (l ∷ ls) =
+    StandsInTime most opened reported l × IsLeanLine q b l
+    × AreLean (sought_after q (form b) l) most (or_open opened l) (told_by l reported) (made_by l b ++ waiting) ls
 
 -- how many `yes` lines end a tree
-abbrev pub most_told : Claim → Option ℕ
-most_told (Best v) = None
-most_told Infeasible = None
-most_told (BudgetBest v) = None
-most_told BudgetNone = None
-most_told (Full count) = Some count
-most_told (All count) = None
-most_told (BudgetList count) = None
+abbrev pub most_reported : Claim → Option ℕ
+most_reported (Best v) = None
+most_reported Infeasible = None
+most_reported (BudgetBest v) = None
+most_reported BudgetNone = None
+most_reported (Full count) = Some count
+most_reported (All count) = None
+most_reported (BudgetList count) = None
 
 abbrev pub Lean : ModelParts → Spans → Cert → Type 0
-Lean m s c = AreLean (sought_for m s c.aim) (most_told c.claim) false 0 (m.cells ∷ []) c.tree
+Lean m s c = AreLean (sought_for m s c.aim) (most_reported c.claim) false 0 (m.cells ∷ []) c.tree

@@ -49,8 +49,8 @@ impl<'a> Contest<'a> {
         requires objective { HasObjective self.now }
         requires asked { MayAsk self.now.problem tables.old cells.now.present }
         ensures same { tables.new ≡ tables.old }
-        ensures told { let bar = bar_of (find_of found.now) (contest_of self.now).warm in IfOk result
-            (λ told. told ≡ cut_by (contest_of self.now) bar (last (search_of self.now.problem)) cells.now.present) }
+        ensures answered { let bar = bar_of (find_of found.now) (contest_of self.now).warm in IfOk result
+            (λ cut. cut ≡ cut_by (contest_of self.now) bar (last (search_of self.now.problem)) cells.now.present) }
     {
         match self.bar(found) {
             Some(bar) => self.is_cut_by(alloc, tables, bar, cells),
@@ -69,8 +69,8 @@ impl<'a> Contest<'a> {
         requires objective { HasObjective self.now }
         requires asked { MayAsk self.now.problem tables.old cells.now.present }
         ensures same { tables.new ≡ tables.old }
-        ensures told { IfOk result
-            (λ told. told ≡ is_cut_at (contest_of self.now) (last (search_of self.now.problem)) cells.now.present bar) }
+        ensures answered { IfOk result
+            (λ cut. cut ≡ is_cut_at (contest_of self.now) (last (search_of self.now.problem)) cells.now.present bar) }
     {
         tables.cut_at_end(alloc, self.objective, self.goal, cells, bar)
     }

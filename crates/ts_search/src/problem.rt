@@ -84,8 +84,8 @@ impl<'a> Problem<'a> {
         requires from { 1 ≤ j }
         requires to { j ≤ requirements (search_of self.now) }
         ensures same { tables.new ≡ tables.old }
-        ensures told { IfOk result
-            (λ told. told ≡ is_refuted_at (search_of self.now) j (last (search_of self.now)) cells.now.present) }
+        ensures answered { IfOk result
+            (λ answer. answer ≡ is_refuted_at (search_of self.now) j (last (search_of self.now)) cells.now.present) }
     {
         if witnesses.shows(j) {
             return Ok(false);
@@ -134,8 +134,8 @@ impl<'a> Problem<'a> {
         requires cell { IsCell k cells.now }
         requires value { Contains (cell_of k cells.now) v }
         ensures same { tables.new ≡ tables.old }
-        ensures told { IfOk result
-            (λ told. told ≡ is_refuted_at (search_of self.now) j k (only k v cells.now.present)) }
+        ensures answered { IfOk result
+            (λ answer. answer ≡ is_refuted_at (search_of self.now) j k (only k v cells.now.present)) }
     {
         let require = &self.model.requirements[j as usize - 1];
         if tables.is_plain(require.term) && k < cells.cells() {

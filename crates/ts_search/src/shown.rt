@@ -162,7 +162,7 @@ impl<'a> Shown<'a> {
         ensures cells { self.new.spared.cells ≡ self.old.spared.cells }
         ensures held { IsHeld r.now self.new }
         ensures series { series_of self.new.witness ≡ series_of self.old.witness }
-        ensures told { self.old.met ≡ false → self.new.met ≡ compares r.now.op r.now.bound
+        ensures answered { self.old.met ≡ false → self.new.met ≡ compares r.now.op r.now.bound
             (answer (forward_of self.old.machine.now) (series_of self.old.witness)) }
     {
         if !self.met {

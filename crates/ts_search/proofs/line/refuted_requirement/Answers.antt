@@ -12,7 +12,8 @@ pub returns-then-branch-clause-found : goal.returns-then-branch-clause-found
 returns-then-branch-clause-found c =
     let s = search_of c.args.problem.now in
     least_here (λ j. is_refuted_at s j (last s) c.args.cells.now.present) (requirements s) c.requirements-j-end.result c.loop-j.j
-    c.in_ok-is_refuted.field-0 _ c.loop-j-test.true c.requirements-j-end.ensures.count c.in_ok-is_refuted.ensures.told c.if-branch.true c.loop-j.invariant.found
+    c.in_ok-is_refuted.field-0 _ c.loop-j-test.true c.requirements-j-end.ensures.count c.in_ok-is_refuted.ensures.answered c.if-branch.true
+    c.loop-j.invariant.found
 
 pub loop-j-preserved : goal.loop-j-preserved
 loop-j-preserved c =
@@ -20,7 +21,7 @@ loop-j-preserved c =
     record {
       same = c.is_refuted.ensures.same ∙ c.loop-j.invariant.same;
       found = least_next (λ j. is_refuted_at s j (last s) c.args.cells.now.present) (requirements s) c.requirements-j-end.result c.loop-j.j
-          c.in_ok-is_refuted.field-0 _ c.loop-j-test.true c.requirements-j-end.ensures.count c.in_ok-is_refuted.ensures.told c.if-branch.false
+          c.in_ok-is_refuted.field-0 _ c.loop-j-test.true c.requirements-j-end.ensures.count c.in_ok-is_refuted.ensures.answered c.if-branch.false
           c.loop-j.invariant.found;
     }
 

@@ -28,7 +28,7 @@ returns-then-branch-clause-line c =
     solved_cut (contest_of c.args.contest.now) (find_of c.args.found.now) b (sym c.in_ok-j.ensures.found ∙ c.in_default.is) c.in-Some-first_halving.halving.cell
     c.in-Some-first_halving.halving.at
     (subst (λ o. MatchOption o (IsSingle b) (λ h. IsHalving h.cell h.at b)) c.in-Some-first_halving.is c.first_halving.ensures)
-    c.in_ok-is_cut.field-0 c.in_ok-is_cut.ensures.told c.if-branch.true c.last-p-then-branch.result c.last-p-then-branch.ensures
+    c.in_ok-is_cut.field-0 c.in_ok-is_cut.ensures.answered c.if-branch.true c.last-p-then-branch.result c.last-p-then-branch.ensures
 
 pub returns-clause-line : goal.returns-clause-line
 returns-clause-line c =
@@ -40,5 +40,5 @@ returns-clause-line c =
     (λ l. l ≡ line_of (TheBest s found) b)
     (λ l h. solved_wide s found b (sym c.in_ok-j.ensures.found ∙ c.in_default.is) halving.cell halving.at
     (subst (λ o. MatchOption o (IsSingle b) (λ h. IsHalving h.cell h.at b)) c.in-Some-first_halving.is c.first_halving.ensures) c.in_ok-is_cut.field-0
-    c.in_ok-is_cut.ensures.told c.if-branch.false l h)
+    c.in_ok-is_cut.ensures.answered c.if-branch.false l h)
     c.inner_line.ensures.line

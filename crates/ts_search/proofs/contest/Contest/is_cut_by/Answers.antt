@@ -27,8 +27,8 @@ cut_at_end-requires-clause-looks c =
     let q = c.args.self.now in
     looks_of q.problem c.requires.asked.posed c.args.cells.now.present c.requires.asked.part c.args.tables.now.machines q.objective c.requires.asked.tables
 
-pub returns-clause-told : goal.returns-clause-told
-returns-clause-told c =
+pub returns-clause-answered : goal.returns-clause-answered
+returns-clause-answered c =
     let q = c.args.self.now in let b = c.args.cells.now.present in
     IfOk-weaker c.cut_at_end.result (λ told. OfTerm c.args.tables.now.machines q.objective
     (λ a. IsTrue told ↔ Cuts q.goal c.args.bar (term_span a (length b) b)))

@@ -35,14 +35,14 @@ refuted-requires-clause-looks c =
     c.requires.asked.tables
 
 -- the requirement's witness meets it
-pub returns-then-shows-clause-told : goal.returns-then-shows-clause-told
-returns-then-shows-clause-told c =
+pub returns-then-shows-clause-answered : goal.returns-then-shows-clause-answered
+returns-then-shows-clause-answered c =
     let q = c.args.self.now in
     sym (shown_alive q c.requires.asked.posed c.args.witnesses.now c.args.cells.now.present c.requires.asked.part c.requires.shown c.args.j
     c.requires.from c.requires.to c.shows.result c.shows.ensures c.if-shows.true (last (search_of q)))
 
-pub returns-clause-told : goal.returns-clause-told
-returns-clause-told c =
+pub returns-clause-answered : goal.returns-clause-answered
+returns-clause-answered c =
     let q = c.args.self.now in let b = c.args.cells.now.present in let r = c.index-require.result.now in
     let is = required_is q c.requires.asked.posed c.args.j r c.requires.from c.requires.to c.index-require.ensures in
     IfOk-weaker c.refuted.result (λ told. OfTerm c.args.tables.now.machines r.term (λ a. IsTrue told ↔ Refutes r.op r.bound (term_span a c.cells.result b)))
