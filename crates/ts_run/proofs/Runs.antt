@@ -65,7 +65,7 @@ module _ (limit : ℕ) (Is Js : List ℕ → Reply → Type 0) (due : List ℕ �
       LiveEnds limit Js due left left_now faults faults_now before after status
   live_as left left_now faults faults_now h = record {
     bytes = h.bytes;
-    told = h.told;
+    stated = h.stated;
     read = h.read;
     front = h.front;
     rest = h.rest;
@@ -206,11 +206,11 @@ never_rose : Rose 0 0 → ⊥
 never_rose (inl h) = omega (arith, h)
 never_rose (inr h) = cc
 
-pub no_fault_told : (status : Status) → (status ≡ ReadFault → Rose 0 0) → (status ≡ WriteFault → Rose 0 0) → TellsNoFault status
-no_fault_told Done r w = tt
-no_fault_told No r w = tt
-no_fault_told Refused r w = tt
-no_fault_told Budget r w = tt
-no_fault_told ReadFault r w = never_rose (r refl)
-no_fault_told WriteFault r w = never_rose (w refl)
-no_fault_told Memory r w = tt
+pub no_fault_reported : (status : Status) → (status ≡ ReadFault → Rose 0 0) → (status ≡ WriteFault → Rose 0 0) → TellsNoFault status
+no_fault_reported Done r w = tt
+no_fault_reported No r w = tt
+no_fault_reported Refused r w = tt
+no_fault_reported Budget r w = tt
+no_fault_reported ReadFault r w = never_rose (r refl)
+no_fault_reported WriteFault r w = never_rose (w refl)
+no_fault_reported Memory r w = tt

@@ -14,24 +14,24 @@ use Rattle.ts_search.proofs.Closing.{budget_is_enough, one_solved}
 use Rattle.ts_search.proofs.OfProgram.{are_right}
 use Rattle.ts_run.specs.Quantities.{usual_lines}
 use Rattle.ts_run.specs.Reply.{Reply}
-use Rattle.ts_run.specs.Sample.{FewCellsAreDone, IsTold, OneSampleReply, six_lines, sum_of}
+use Rattle.ts_run.specs.Sample.{FewCellsAreDone, IsReported, OneSampleReply, six_lines, sum_of}
 use Rattle.ts_run.specs.SampleModel.{cells_from, least_of, sample_stated, six_from}
 use Rattle.ts_run.specs.declared.status.Status.TheVariants.{Done}
 use Rattle.ts_run.proofs.SampleModelLaws.{sample_limits, sample_whole}
 
 -- one reply
 
-one_told : (n : ℕ) (claim : Claim) (series : List (List ℤ)) (tree : List TreeLine) (r s : Reply) → IsTold n claim series tree r → IsTold n claim series tree s →
-    r ≡ s
-one_told n (Best v) series tree r s h k =
+one_reported : (n : ℕ) (claim : Claim) (series : List (List ℤ)) (tree : List TreeLine) (r s : Reply) → IsReported n claim series tree r →
+    IsReported n claim series tree s → r ≡ s
+one_reported n (Best v) series tree r s h k =
     let same : h.0 ≡ k.0 = let e = sym h.1 ∙ k.1 in cc in
     h.2 ∙ ap (λ (x : List ℤ). six_lines n v (sum_of x) (checked_count tree)) same ∙ sym k.2
-one_told n Infeasible series tree r s h k = absurd h
-one_told n (BudgetBest v) series tree r s h k = h ∙ sym k
-one_told n BudgetNone series tree r s h k = h ∙ sym k
-one_told n (Full count) series tree r s h k = absurd h
-one_told n (All count) series tree r s h k = absurd h
-one_told n (BudgetList count) series tree r s h k = absurd h
+one_reported n Infeasible series tree r s h k = absurd h
+one_reported n (BudgetBest v) series tree r s h k = h ∙ sym k
+one_reported n BudgetNone series tree r s h k = h ∙ sym k
+one_reported n (Full count) series tree r s h k = absurd h
+one_reported n (All count) series tree r s h k = absurd h
+one_reported n (BudgetList count) series tree r s h k = absurd h
 
 pub one_sample_reply : OneSampleReply
 one_sample_reply n r s h k =
@@ -40,7 +40,7 @@ one_sample_reply n r s h k =
     let same : k.certificate ≡ c =
     one_solved m (spans_in m) Minimise usual_lines k.certificate c
     (are_right m (sample_whole n h.asked) (sample_limits n h.asked).box) refl k.solved h.solved in
-    one_told n c.claim c.series c.tree r s h.told (subst (λ (z : Cert). IsTold n z.claim z.series z.tree s) same k.told)
+    one_reported n c.claim c.series c.tree r s h.reported (subst (λ (z : Cert). IsReported n z.claim z.series z.tree s) same k.reported)
 
 -- how many series there are
 
@@ -78,7 +78,7 @@ few_series (suc (suc (suc (suc (suc zero))))) h = omega arith
 few_series (suc (suc (suc (suc (suc (suc zero)))))) h = omega arith
 few_series (suc (suc (suc (suc (suc (suc (suc n))))))) h = absurd (omega (arith, h))
 
-done_claim : (n : ℕ) (claim : Claim) (series : List (List ℤ)) (tree : List TreeLine) (r : Reply) → (IsBudget claim → ⊥) → IsTold n claim series tree r →
+done_claim : (n : ℕ) (claim : Claim) (series : List (List ℤ)) (tree : List TreeLine) (r : Reply) → (IsBudget claim → ⊥) → IsReported n claim series tree r →
     r.status ≡ Done
 done_claim n (Best v) series tree r f h = ap (λ (x : Reply). x.status) h.2
 done_claim n Infeasible series tree r f h = absurd h
@@ -94,4 +94,4 @@ few_cells_are_done n r few h =
     let c = h.certificate in
     let many = subst (λ (z : ℕ). 2 * z ≤ usual_lines + 1) (sym (series_many 1 n)) (few_series n few) in
     done_claim n c.claim c.series c.tree r
-    (budget_is_enough m (spans_in m) Minimise usual_lines c (are_right m (sample_whole n h.asked) (sample_limits n h.asked).box) many h.solved) h.told
+    (budget_is_enough m (spans_in m) Minimise usual_lines c (are_right m (sample_whole n h.asked) (sample_limits n h.asked).box) many h.solved) h.reported

@@ -26,7 +26,7 @@ use Rattle.ts_checker.proofs.Verdicts.{one_verdict}
 use Rattle.ts_run.specs.Headline.{SaysSample}
 use Rattle.ts_run.specs.Quantities.{IsWithin, usual_lines}
 use Rattle.ts_run.specs.Reply.{Reply, reply_of}
-use Rattle.ts_run.specs.Sample.{IsTold, SampleReply, sample_text, six_lines, sum_of, three_lines}
+use Rattle.ts_run.specs.Sample.{IsReported, SampleReply, sample_text, six_lines, sum_of, three_lines}
 use Rattle.ts_run.specs.SampleModel.{sample_stated}
 use Rattle.ts_run.specs.Verified.{verdict_reply}
 use Rattle.ts_run.specs.declared.reply.Reply.{Reply as GivenReply}
@@ -44,7 +44,7 @@ module _ (n : ℕ) (asked : IsWithin 1 most_cells n) where
   -- a claim that isn't of a best value is one of a spent budget
   no_other : (claim : Claim) (series : List (List ℤ)) (tree : List TreeLine) →
       IsSolvedBy (contest_for m (spans_in m) Minimise) usual_lines claim series tree → ((v : Ext) → claim ≡ Best v → ⊥) →
-      IsTold n claim series tree (three_lines n)
+      IsReported n claim series tree (three_lines n)
   no_other (Best v) series tree h f = absurd (f v refl)
   no_other Infeasible series tree h f = absurd (h.1 _ (sample_meets n asked))
   no_other (BudgetBest v) series tree h f = refl
@@ -59,7 +59,7 @@ module _ (n : ℕ) (asked : IsWithin 1 most_cells n) where
       asked = asked;
       certificate = c;
       solved = solved;
-      told = subst (IsTold n c.claim c.series c.tree) (sym is) (no_other c.claim c.series c.tree solved.claim f);
+      reported = subst (IsReported n c.claim c.series c.tree) (sym is) (no_other c.claim c.series c.tree solved.claim f);
     }
 
     is_sent : IsSent c
@@ -110,7 +110,7 @@ module _ (n : ℕ) (asked : IsWithin 1 most_cells n) where
             asked = asked;
             certificate = c;
             solved = solved;
-            told = subst (λ z. IsTold n z c.series c.tree r) (sym best) (x, series, six);
+            reported = subst (λ z. IsReported n z c.series c.tree r) (sym best) (x, series, six);
           }
 
 -- the certificate of the model that was made, as the code has it
@@ -163,7 +163,7 @@ module _ (n k b : ℕ) (made : ModelParts) (c : Cert) (value : k ≡ n) (range :
 
 -- what is said of the model
 
-pub spent_claim : (n : ℕ) (claim : Claim) (series : List (List ℤ)) (tree : List TreeLine) (r : Reply) → IsTold n claim series tree r →
+pub spent_claim : (n : ℕ) (claim : Claim) (series : List (List ℤ)) (tree : List TreeLine) (r : Reply) → IsReported n claim series tree r →
     r.status ≡ Budget → IsBudget claim
 spent_claim n (Best v) series tree r h e = absurd (let done : Done ≡ Budget = sym (ap (λ (x : Reply). x.status) h.2) ∙ e in cc)
 spent_claim n Infeasible series tree r h e = absurd h
@@ -180,5 +180,5 @@ says_sample n r s =
     record {
       is = s;
       enough = λ many e. budget_is_enough m (spans_in m) Minimise usual_lines c (are_right m (sample_whole n s.asked) (sample_limits n s.asked).box) many
-          s.solved (spent_claim n c.claim c.series c.tree r s.told e);
+          s.solved (spent_claim n c.claim c.series c.tree r s.reported e);
     }

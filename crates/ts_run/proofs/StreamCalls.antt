@@ -28,10 +28,10 @@ abbrev pub rest_of : Option (List ℕ) → List ℕ
 rest_of None = []
 rest_of (Some rest) = rest
 
-told : (read : List ℕ) (left left_now : Option (List ℕ)) → left ≡ put_back read left_now → IfSome left (λ all. all ≡ read ++ rest_of left_now)
-told read None left_now e = tt
-told read (Some all) None e = cc
-told read (Some all) (Some rest) e = cc
+stated : (read : List ℕ) (left left_now : Option (List ℕ)) → left ≡ put_back read left_now → IfSome left (λ all. all ≡ read ++ rest_of left_now)
+stated read None left_now e = tt
+stated read (Some all) None e = cc
+stated read (Some all) (Some rest) e = cc
 
 no_piece : (left : Option (List ℕ)) → put_back [] left ≡ left
 no_piece None = refl
@@ -87,7 +87,7 @@ module _ (due : List ℕ → Due) (reply : List ℕ → Reply) (stream : IsStrea
       ⊎ (Rose faults faults_now × StreamBroken limit due read before after status) → (status ≡ ReadFault → Rose faults faults_now) → Ends
   ends_so p read front gave most near few unended written response fault = record {
     bytes = read ++ rest_of left_now;
-    told = told read left left_now gave;
+    stated = stated read left left_now gave;
     read = read;
     front = (rest_of left_now, refl);
     rest = given_after read left left_now gave;

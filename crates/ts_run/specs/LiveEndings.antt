@@ -64,7 +64,7 @@ pub record LiveEnds (limit : ℕ) (Is : List ℕ → Reply → Type 0) (due : Li
     (left left_now : Option (List ℕ)) (faults faults_now : ℕ) (before after : Option (List ℕ)) (status : Status) :
     Type 0 where
   pub bytes : List ℕ
-  pub told : IfSome left (λ all. all ≡ bytes)
+  pub stated : IfSome left (λ all. all ≡ bytes)
   pub read : List ℕ
   pub front : IsFront read bytes
   pub rest : left_now ≡ left_after (length read) left

@@ -40,21 +40,22 @@ abbrev pub three_lines : ℕ → Reply
 three_lines n = record { text = head_lines n ++ codes "budget\n"; status = Budget }
 
 -- what is reported of a claim: the model has a series that meets, so there is no other
-abbrev pub IsTold : ℕ → Claim → List (List ℤ) → List TreeLine → Reply → Type 0
-IsTold n (Best v) series tree r = (x : List ℤ) × (series ≡ x ∷ []) × (r ≡ six_lines n v (sum_of x) (checked_count tree))
-IsTold n Infeasible series tree r = ⊥
-IsTold n (BudgetBest v) series tree r = r ≡ three_lines n
-IsTold n BudgetNone series tree r = r ≡ three_lines n
-IsTold n (Full count) series tree r = ⊥
-IsTold n (All count) series tree r = ⊥
-IsTold n (BudgetList count) series tree r = ⊥
+abbrev pub IsReported : ℕ → Claim → List (List ℤ) → List TreeLine → Reply → Type 0
+IsReported n (Best v) series tree r =
+    (x : List ℤ) × (series ≡ x ∷ []) × (r ≡ six_lines n v (sum_of x) (checked_count tree))
+IsReported n Infeasible series tree r = ⊥
+IsReported n (BudgetBest v) series tree r = r ≡ three_lines n
+IsReported n BudgetNone series tree r = r ≡ three_lines n
+IsReported n (Full count) series tree r = ⊥
+IsReported n (All count) series tree r = ⊥
+IsReported n (BudgetList count) series tree r = ⊥
 
 -- what `sample N` replies, whatever its input
 pub record SampleReply (n : ℕ) (r : Reply) : Type 0 where
   pub asked : IsWithin 1 most_cells n
   pub certificate : Cert
   pub solved : IsSolution (sample_stated n) (spans_in (sample_stated n)) Minimise usual_lines certificate
-  pub told : IsTold n certificate.claim certificate.series certificate.tree r
+  pub reported : IsReported n certificate.claim certificate.series certificate.tree r
 
 -- `sample N` has one reply: the tree leaves no line to choose
 abbrev pub OneSampleReply : Type 0

@@ -1,5 +1,5 @@
-use Rattle.ts_run.proofs.Runs.{no_fault_told}
+use Rattle.ts_run.proofs.Runs.{no_fault_reported}
 use Rattle.ts_run.proofs.call.run_over_never.Goals as goal
 
 pub returns : goal.returns
-returns c = no_fault_told c.run.result c.run.ensures.reads.fault c.run.ensures.writes.fault
+returns c = no_fault_reported c.run.result c.run.ensures.reads.fault c.run.ensures.writes.fault
