@@ -73,7 +73,7 @@ tree_may m s a c listed b t l (Ok k) ready front lent keeps may = λ kept.
 
 -- a line that was read as a tree line
 pub as_tree : (m : ModelParts) (s : Spans) (t : Stand) (p : Parsed) (l : TreeLine) (r : Result Bool Memory) → p ≡ Tree l →
-    IfOk r (λ keeps. IsTrue keeps ↔ KeepsTreeRule m s t.aim t.claim t.series t.waiting t.told l) →
+    IfOk r (λ keeps. IsTrue keeps ↔ KeepsTreeRule m s t.aim t.claim t.series t.waiting t.reported l) →
     IfOk r (λ keeps. IsTrue keeps ↔ KeepsLine m s t (line_seen p))
 as_tree m s t p l r is h = subst (λ q. IfOk r (λ keeps. IsTrue keeps ↔ KeepsLine m s t (line_seen q))) (sym is) h
 
@@ -84,7 +84,7 @@ may_as_tree t p l r is h = subst (λ q. IfOk r (λ keeps. IsTrue keeps → MayTa
 -- boxes keep their number of cells
 
 pub new_sized : (m : ModelParts) (t : Standing) (root : Boxes) (cells : List (List ℤ)) →
-    stand_of t ≡ record { aim = None; claim = None; series = []; waiting = root.present ∷ []; told = 0 } →
+    stand_of t ≡ record { aim = None; claim = None; series = []; waiting = root.present ∷ []; reported = 0 } →
     root ≡ record { earlier = []; present = cells } → cells ≡ m.cells → AreSized m t.frontier.boxes
 new_sized m t root cells unfed alone all =
     subst (λ (s : Stand). AreSized m s.waiting) (sym unfed) (ap length (ap (λ (b : Boxes). b.present) alone ∙ all), tt)

@@ -44,7 +44,7 @@ lines_count m s t (SaysClaim c ∷ ls) u h = lines_count m s (stand_after t (Say
 lines_count m s t (SaysSeries x ∷ ls) u h = lines_count m s (stand_after t (SaysSeries x)) ls u h.1
 lines_count m s t (SaysTree l ∷ ls) u h =
     let rest : length u.waiting + ends ls ≡ length (waiting_after t.waiting l) + splits ls = lines_count m s (stand_after t (SaysTree l)) ls u h.1 in
-    let one = tree_count m s t.aim t.claim t.series t.waiting t.told l h.0 in
+    let one = tree_count m s t.aim t.claim t.series t.waiting t.reported l h.0 in
     omega (arith, rest, one)
 lines_count m s t (SaysEnd checked unsearched ∷ ls) u h = lines_count m s t ls u h.1
 

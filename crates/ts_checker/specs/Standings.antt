@@ -18,7 +18,7 @@ stand_of t = record {
   claim = t.claim;
   series = series_of t.series.items;
   waiting = t.frontier.boxes;
-  told = t.reported;
+  reported = t.reported;
 }
 
 -- where lines have led, with no box that waits any more

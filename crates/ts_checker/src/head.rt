@@ -4,7 +4,7 @@ ghost use Rattle.std.specs.Prelude.{◌≡◌, ◌↔◌, IfOk, IsTrue, Some};
 ghost use Rattle.std.specs.List.{AllByRecursion};
 ghost use Rattle.ts_base.specs.Limits.{IsCellValue};
 ghost use Rattle.ts_domain.specs.BoxSeries.{IsBefore};
-ghost use Rattle.ts_filter.specs.Accepts.{AimFits, AllTold, ClaimFits, ComesAfter, IsAsClaimed, SeriesFits};
+ghost use Rattle.ts_filter.specs.Accepts.{AimFits, AllReported, ClaimFits, ComesAfter, IsAsClaimed, SeriesFits};
 ghost use Rattle.ts_model.specs.Meets.{values_on};
 ghost use Rattle.ts_model.specs.Promise.{IsWhole};
 ghost use Rattle.ts_model.specs.Views.{model_parts};
@@ -120,7 +120,7 @@ fn is_before(earlier: &[i64], later: &[i64]) -> bool
 
 /// Whether in a listing each series had its `yes`.
 pub(crate) fn all_reported(aim: Aim, reported: usize, listed: usize) -> bool
-    ensures { IsTrue result ↔ AllTold aim reported listed }
+    ensures { IsTrue result ↔ AllReported aim reported listed }
 {
     match aim {
         Aim::Best(_) => true,

@@ -4,7 +4,7 @@ ghost use Rattle.std.specs.Prelude.{◌≡◌, [], ◌↔◌, IfOk, IsTrue, Matc
 ghost use Rattle.std.specs.List.{AllByRecursion};
 ghost use Rattle.ts_base.specs.Limits.{IsCellValue};
 ghost use Rattle.ts_certificate.specs.Seen.{line_seen};
-ghost use Rattle.ts_filter.specs.Accepts.{AllTold, ClaimFits, SeriesFits};
+ghost use Rattle.ts_filter.specs.Accepts.{AllReported, ClaimFits, SeriesFits};
 ghost use Rattle.ts_filter.specs.Lines.{KeepsLine, KeepsTreeRule};
 ghost use Rattle.ts_model.specs.Promise.{IsWhole};
 ghost use Rattle.ts_model.specs.Views.{model_parts};
@@ -119,7 +119,7 @@ fn keeps_tree(
 /// Whether nothing waits, and in a listing each series had its `yes`.
 fn keeps_end(standing: &Standing) -> bool
     ensures { IsTrue result ↔ MatchOption standing.now.aim ⊥ (λ aim. (standing.now.frontier.boxes ≡ [])
-        × AllTold aim standing.now.reported (length (series_of standing.now.series.items))) }
+        × AllReported aim standing.now.reported (length (series_of standing.now.series.items))) }
 {
     match standing.aim {
         Some(aim) => {

@@ -26,7 +26,7 @@ impl Standing {
     /// Before the first line the model's box waits.
     pub(crate) fn new(alloc: Global, root: Boxed) -> Standing
         ensures { stand_of result
-            ≡ record { aim = None; claim = None; series = []; waiting = root.present ∷ []; told = 0 } }
+            ≡ record { aim = None; claim = None; series = []; waiting = root.present ∷ []; reported = 0 } }
     {
         Standing {
             aim: None,

@@ -22,7 +22,7 @@ use Rattle.ts_filter.specs.Laws.{IsSound, AcceptedHolds}
 use Rattle.ts_filter.specs.RefutedWorseDrop.{Spans, IsDrop}
 use Rattle.ts_filter.specs.Rules.{Head, head_of, IsNext, IsWorseFor, claimed_value, IsListing, MayStayOpen}
 use Rattle.ts_filter.specs.Steps.{Steps, open_boxes}
-use Rattle.ts_filter.specs.Tree.{told_after}
+use Rattle.ts_filter.specs.Tree.{reported_after}
 use Rattle.ts_filter.proofs.BoxParts.{in_a_side, only_or_without, only_part, only_series, part_self}
 use Rattle.ts_filter.proofs.TreeLaws.{parts_made, to_steps}
 use Rattle.ts_filter.proofs.SeriesLines.{fit_all, AreFit, fits_list}
@@ -198,7 +198,7 @@ module _ (m : ModelParts) (series : List (List ℤ)) (opens : List Box) (after :
 pub accepted_holds : AcceptedHolds
 accepted_holds m s c i sound a =
     let h = head_of c in
-    let after = told_after a.tree.tree 0 in
+    let after = reported_after a.tree.tree 0 in
     let st : Steps m s h (m.cells ∷ []) 0 c.tree [] after =
     subst (λ z. Steps m s h (m.cells ∷ []) 0 z [] after) a.tree.lines (to_steps m s h m.cells a.tree.tree a.tree.fits) in
     by_claim m c.series (open_boxes (m.cells ∷ []) c.tree) after c.aim c.claim

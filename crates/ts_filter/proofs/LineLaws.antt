@@ -4,18 +4,18 @@ use Rattle.ts_certificate.specs.declared.certificate.TreeLine.{TreeLine}
 use Rattle.ts_certificate.specs.Certificate.{Cert, cert_lines, end_line}
 use Rattle.ts_certificate.specs.Grammar.{CertLine, SaysSeries, SaysTree, series_count}
 use Rattle.ts_model.specs.ModelParts.{ModelParts}
-use Rattle.ts_filter.specs.Accepts.{AllFit, AllTold, HasTree, Accepts}
+use Rattle.ts_filter.specs.Accepts.{AllFit, AllReported, HasTree, Accepts}
 use Rattle.ts_filter.specs.Boxes.{Box}
 use Rattle.ts_filter.specs.Laws.{AcceptedIsKept, OneFirstFailing, FailingIsRejected, LinesGoOn, WholeIsJudged}
 use Rattle.ts_filter.specs.Lines.{Stand, first_stand, KeepsLine, stand_after, Leads, FailsAt}
 use Rattle.ts_filter.specs.RefutedWorseDrop.{Spans}
 use Rattle.ts_filter.specs.Rules.{Head, head_of}
 use Rattle.ts_filter.specs.Steps.{made_by, Steps}
-use Rattle.ts_filter.specs.Tree.{told_by, told_after}
+use Rattle.ts_filter.specs.Tree.{reported_by, reported_after}
 use Rattle.ts_filter.proofs.TreeLaws.{to_steps, tree_is_steps}
 
 abbrev stand : Head → List (List ℤ) → List Box → ℕ → Stand
-stand h series w told = record { aim = Some h.aim; claim = Some h.claim; series = series; waiting = w; told = told }
+stand h series w told = record { aim = Some h.aim; claim = Some h.claim; series = series; waiting = w; reported = told }
 
 module _ (m : ModelParts) (s : Spans) where
   leads_append : (t u v : Stand) (ls ms : List CertLine) → Leads m s t ls u → Leads m s u ms v → Leads m s t (ls ++ ms) v
@@ -56,7 +56,7 @@ module _ (m : ModelParts) (s : Spans) where
       Leads m s (stand h h.series w told) (map SaysTree ls) (stand h h.series left after)
   steps_lead h [] told w left after f = ap (λ z. stand h h.series z told) f.0 ∙ ap (λ z. stand h h.series left z) f.1
   steps_lead h (l ∷ ls) told [] left after f = absurd f
-  steps_lead h (l ∷ ls) told (b ∷ w) left after f = (f.0, steps_lead h ls (told_by l told) (made_by l b ++ w) left after f.1)
+  steps_lead h (l ∷ ls) told (b ∷ w) left after f = (f.0, steps_lead h ls (reported_by l told) (made_by l b ++ w) left after f.1)
 
   record LedTo (h : Head) (w : List Box) (told : ℕ) (ls : List TreeLine) (t : Stand) : Type 0 where
     left : List Box
@@ -69,7 +69,7 @@ module _ (m : ModelParts) (s : Spans) where
   lead_steps h [] told w t r = record { left = w; after = told; steps = (refl, refl); is = r }
   lead_steps h (l ∷ ls) told [] t r = absurd r.0
   lead_steps h (l ∷ ls) told (b ∷ w) t r =
-      let k = lead_steps h ls (told_by l told) (made_by l b ++ w) t r.1 in
+      let k = lead_steps h ls (reported_by l told) (made_by l b ++ w) t r.1 in
       record { left = k.left; after = k.after; steps = (r.0, k.steps); is = k.is }
 
   -- the series lines
@@ -92,7 +92,7 @@ module _ (m : ModelParts) (s : Spans) where
   accepted_leads : (c : Cert) → Accepts m s c → (t : Stand) × Leads m s (first_stand m) (cert_lines c) t
   accepted_leads c a =
       let h = head_of c in
-      let after = told_after a.tree.tree 0 in
+      let after = reported_after a.tree.tree 0 in
       let end = stand h c.series [] after in
       let tree : Steps m s h (m.cells ∷ []) 0 c.tree [] after =
       subst (λ z. Steps m s h (m.cells ∷ []) 0 z [] after) a.tree.lines (to_steps m s h m.cells a.tree.tree a.tree.fits) in (
@@ -104,7 +104,7 @@ module _ (m : ModelParts) (s : Spans) where
             leads_append (stand h [] (m.cells ∷ []) 0) (stand h c.series (m.cells ∷ []) 0) end (map SaysSeries c.series)
                 (map SaysTree c.tree ++ end_line c.tree ∷ []) (series_lead h (m.cells ∷ []) 0 c.series [] a.series)
                 (leads_append (stand h c.series (m.cells ∷ []) 0) end end (map SaysTree c.tree) (end_line c.tree ∷ [])
-                (steps_lead h c.tree 0 (m.cells ∷ []) [] after tree) ((refl, a.tree.told), refl)),
+                (steps_lead h c.tree 0 (m.cells ∷ []) [] after tree) ((refl, a.tree.reported), refl)),
           ),
         ),
       )
@@ -113,7 +113,7 @@ module _ (m : ModelParts) (s : Spans) where
   leads_from t u v ls e r = subst (λ z. Leads m s z ls v) (sym e) r
 
   end_kept : (c : Cert) (w : List Box) (told : ℕ) (t v : Stand) → stand (head_of c) c.series w told ≡ t → Leads m s t (end_line c.tree ∷ []) v →
-      (w ≡ []) × AllTold c.aim told (length c.series)
+      (w ≡ []) × AllReported c.aim told (length c.series)
   end_kept c w told t v e r = (leads_from (stand (head_of c) c.series w told) t v (end_line c.tree ∷ []) e r).0
 
   leads_accepted : (c : Cert) (v : Stand) → length c.series ≡ series_count c.claim → Leads m s (first_stand m) (cert_lines c) v → Accepts m s c
@@ -128,11 +128,11 @@ module _ (m : ModelParts) (s : Spans) where
       let e = end_kept c d.left d.after q.0 v d.is q.2 in
       record { aim = r.0; claim = r.1.0; count = n; series = k.0; tree = tree d.left d.after d.steps e.0 e.1 }
     where
-      tree : (left : List Box) (after : ℕ) → Steps m s (head_of c) (m.cells ∷ []) 0 c.tree left after → left ≡ [] → AllTold c.aim after (length c.series) →
+      tree : (left : List Box) (after : ℕ) → Steps m s (head_of c) (m.cells ∷ []) 0 c.tree left after → left ≡ [] → AllReported c.aim after (length c.series) →
           HasTree m s c
       tree left after st none end =
           let f = (tree_is_steps m s (head_of c) m.cells c.tree after).1 (subst (λ z. Steps m s (head_of c) (m.cells ∷ []) 0 c.tree z after) none st) in
-          record { tree = f.0; lines = f.1; fits = f.2; told = subst (λ z. AllTold c.aim z (length c.series)) (sym f.3) end }
+          record { tree = f.0; lines = f.1; fits = f.2; reported = subst (λ z. AllReported c.aim z (length c.series)) (sym f.3) end }
 
 pub accepted_is_kept : AcceptedIsKept
 accepted_is_kept m s c n = (λ a. accepted_leads m s c a, λ r. leads_accepted m s c r.0 n r.1)

@@ -24,7 +24,7 @@ use Rattle.ts_filter.specs.Laws.{LinesInRange}
 use Rattle.ts_filter.specs.RefutedWorseDrop.{Spans, IsRequirement}
 use Rattle.ts_filter.specs.Rules.{Head, IsWorseFor, claimed_value, KeepsRule}
 use Rattle.ts_filter.specs.Steps.{made_by, Steps}
-use Rattle.ts_filter.specs.Tree.{told_by}
+use Rattle.ts_filter.specs.Tree.{reported_by}
 use Rattle.ts_filter.proofs.BoxParts.{place, domain_at, inside_length, part_self}
 use Rattle.ts_filter.proofs.TreeLaws.{parts_made}
 
@@ -92,7 +92,7 @@ module _ (m : ModelParts) (s : Spans) (h : Head) (few : length m.cells ≤ most_
   lines_in (l ∷ ls) told [] left after e f = absurd f
   lines_in (l ∷ ls) told (b ∷ w) left after e f =
       and_from (is_tree_line l) (list_all is_tree_line ls) (line_in told l b e.0 f.0)
-      (lines_in ls (told_by l told) (made_by l b ++ w) left after (parts_made m s h told l b w e f.0) f.1)
+      (lines_in ls (reported_by l told) (made_by l b ++ w) left after (parts_made m s h told l b w e f.0) f.1)
 
 pub lines_in_range : LinesInRange
 lines_in_range m s h ls w told i few short f = lines_in m s h few short ls 0 (m.cells ∷ []) w told (part_self m.cells i, tt) f

@@ -14,7 +14,7 @@ use Rattle.ts_domain.proofs.Sets.{each_contains}
 use Rattle.ts_bound.specs.TermSpans.{Automata, LooksIn, value_span, IsUsable as IsUsableOf}
 use Rattle.ts_model.specs.declared.model.Require.{Require}
 use Rattle.ts_filter.specs.declared.drops.Removal.{Removal}
-use Rattle.ts_filter.specs.declared.spares.Told.{Told}
+use Rattle.ts_filter.specs.declared.spares.Answer.{Answer}
 use Rattle.ts_filter.specs.declared.term_requirements.TermRequirements.{TermRequirements}
 use Rattle.ts_filter.specs.Boxes.{Box, values_at}
 use Rattle.ts_filter.specs.KeptCells.{AreFree, AreKept, AreSized, IsAliveTerm, IsFree, IsKeptIfKnown, IsSpared, IsSparedAt, IsTermKept, Tells, TermKept, below_all, forgotten, is_alive_in, spared_in, unknown, with_alive, with_known, with_spared}
@@ -348,7 +348,7 @@ past_value values i n v limit above here up = by_order (split i n)
     by_order (inl l) = l
     by_order (inr l) = absurd (let more = above i v l here in omega (arith, ints, more, up))
 
-pub left_free : (rs : List Require) (term : ℕ) (a : Automata) (b : Box) (k from to : ℕ) (v : ℤ) (told : Told) → from ≤ to → to ≤ length (values_at k b) →
+pub left_free : (rs : List Require) (term : ℕ) (a : Automata) (b : Box) (k from to : ℕ) (v : ℤ) (told : Answer) → from ≤ to → to ≤ length (values_at k b) →
     IsRising (values_at k b) → slice_get (values_at k b) from ≡ Some v → AreUpTo (values_at k b) to told.to → AreFree rs term a b k v told →
     AreLeft rs term a b k (drop from (values_at k b)) → IsTrue told.free → AreLeft rs term a b k (drop to (values_at k b))
 left_free rs term a b k from to v told le within rises here up are left free =

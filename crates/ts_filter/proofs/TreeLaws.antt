@@ -11,12 +11,12 @@ use Rattle.ts_filter.specs.Laws.{StepsGoOn, FormedIsShort, FitIsFormed, TreeIsSt
 use Rattle.ts_filter.specs.RefutedWorseDrop.{Spans}
 use Rattle.ts_filter.specs.Rules.{Head, KeepsRule}
 use Rattle.ts_filter.specs.Steps.{made_by, Steps}
-use Rattle.ts_filter.specs.Tree.{Tree, Leaf, Drop, Fork, tree_lines, told_by, told_after, Fits}
+use Rattle.ts_filter.specs.Tree.{Tree, Leaf, Drop, Fork, tree_lines, reported_by, reported_after, Fits}
 use Rattle.ts_filter.proofs.BoxParts.{inside_length, low_part, high_part, without_part, only_part, others_stay, part_self, box_total, low_total, high_total, without_total, sides_count, drop_count}
 
 module _ (m : ModelParts) (s : Spans) (h : Head) where
   pub tree_steps : (told : ℕ) (b : Box) (t : Tree) (w : List Box) (rest : List TreeLine) (left : List Box) (after : ℕ) →
-      Fits m s h told b t → Steps m s h w (told_after t told) rest left after → Steps m s h (b ∷ w) told (tree_lines t ++ rest) left after
+      Fits m s h told b t → Steps m s h w (reported_after t told) rest left after → Steps m s h (b ∷ w) told (tree_lines t ++ rest) left after
   tree_steps told b (Leaf (Split k t)) w rest left after f r = absurd f.0
   tree_steps told b (Leaf (Remove k v j)) w rest left after f r = absurd f.0
   tree_steps told b (Leaf (No j p)) w rest left after f r = (f.1, r)
@@ -25,7 +25,7 @@ module _ (m : ModelParts) (s : Spans) (h : Head) where
   tree_steps told b (Leaf Unsearched) w rest left after f r = (f.1, r)
   tree_steps told b (Drop k v j t) w rest left after f r = (f.0, tree_steps told (without k v b) t w rest left after f.1 r)
   tree_steps told b (Fork k t a d) w rest left after f r =
-      let upper = tree_steps (told_after a told) (high_side k t b) d w rest left after f.2 r in
+      let upper = tree_steps (reported_after a told) (high_side k t b) d w rest left after f.2 r in
       let lower = tree_steps told (low_side k t b) a (high_side k t b ∷ w) (tree_lines d ++ rest) left after f.1 upper in
       (f.0, subst (λ z. Steps m s h (low_side k t b ∷ high_side k t b ∷ w) told z left after) (sym (append_assoc (tree_lines a) (tree_lines d) rest)) lower)
 
@@ -33,7 +33,7 @@ module _ (m : ModelParts) (s : Spans) (h : Head) where
   abbrev Forest : ℕ → List Box → List TreeLine → ℕ → Type 0
   Forest told [] ls after = (ls ≡ []) × (told ≡ after)
   Forest told (b ∷ w) ls after =
-      (t : Tree) × (rest : List TreeLine) × (ls ≡ tree_lines t ++ rest) × Fits m s h told b t × Forest (told_after t told) w rest after
+      (t : Tree) × (rest : List TreeLine) × (ls ≡ tree_lines t ++ rest) × Fits m s h told b t × Forest (reported_after t told) w rest after
 
   steps_tree : (ls : List TreeLine) (told : ℕ) (w : List Box) (after : ℕ) → Steps m s h w told ls [] after → Forest told w ls after
   steps_tree [] told [] after f = (refl, f.1)
@@ -56,9 +56,9 @@ module _ (m : ModelParts) (s : Spans) (h : Head) where
   steps_tree (Yes ∷ ls) told (b ∷ w) after f = (Leaf Yes, ls, refl, (tt, f.0), steps_tree ls (told + 1) w after f.1)
   steps_tree (Unsearched ∷ ls) told (b ∷ w) after f = (Leaf Unsearched, ls, refl, (tt, f.0), steps_tree ls told w after f.1)
 
-  pub to_steps : (b : Box) (t : Tree) → Fits m s h 0 b t → Steps m s h (b ∷ []) 0 (tree_lines t) [] (told_after t 0)
+  pub to_steps : (b : Box) (t : Tree) → Fits m s h 0 b t → Steps m s h (b ∷ []) 0 (tree_lines t) [] (reported_after t 0)
   to_steps b t f =
-      subst (λ z. Steps m s h (b ∷ []) 0 z [] (told_after t 0)) (append-nil (tree_lines t)) (tree_steps 0 b t [] [] [] (told_after t 0) f (refl, refl))
+      subst (λ z. Steps m s h (b ∷ []) 0 z [] (reported_after t 0)) (append-nil (tree_lines t)) (tree_steps 0 b t [] [] [] (reported_after t 0) f (refl, refl))
 
   -- the boxes that a line makes lie inside too
   pub parts_made : (told : ℕ) (l : TreeLine) (b : Box) (w : List Box) → AllByRecursion (λ c. IsPart c m.cells) (b ∷ w) → KeepsRule m s h told b l →
@@ -75,7 +75,7 @@ module _ (m : ModelParts) (s : Spans) (h : Head) where
   parts_steps [] told w left after e f = subst (λ z. AllByRecursion (λ c. IsPart c m.cells) z) f.0 e
   parts_steps (l ∷ ls) told [] left after e f = absurd f
   parts_steps (l ∷ ls) told (b ∷ w) left after e f =
-      parts_steps ls (told_by l told) (made_by l b ++ w) left after (parts_made told l b w e f.0) f.1
+      parts_steps ls (reported_by l told) (made_by l b ++ w) left after (parts_made told l b w e f.0) f.1
 
   steps_more : (ls more : List TreeLine) (told : ℕ) (w left end : List Box) (after last : ℕ) → Steps m s h w told ls left after →
       Steps m s h left after more end last → Steps m s h w told (ls ++ more) end last
@@ -83,7 +83,7 @@ module _ (m : ModelParts) (s : Spans) (h : Head) where
       subst (λ z. Steps m s h z told more end last) (sym f.0) (subst (λ n. Steps m s h left n more end last) (sym f.1) g)
   steps_more (l ∷ ls) more told [] left end after last f g = absurd f
   steps_more (l ∷ ls) more told (b ∷ w) left end after last f g =
-      (f.0, steps_more ls more (told_by l told) (made_by l b ++ w) left end after last f.1 g)
+      (f.0, steps_more ls more (reported_by l told) (made_by l b ++ w) left end after last f.1 g)
 
   -- each box, with those after it counted and its own values, is at most so much
   abbrev Few : ℕ → List Box → Type 0
@@ -104,7 +104,7 @@ module _ (m : ModelParts) (s : Spans) (h : Head) where
   few_steps top [] told w left after i e f = subst (λ z. Few top z) f.0 e
   few_steps top (l ∷ ls) told [] left after i e f = absurd f
   few_steps top (l ∷ ls) told (b ∷ w) left after i e f =
-      few_steps top ls (told_by l told) (made_by l b ++ w) left after (parts_made told l b w i f.0) (few_made told top l b w i.0.box e f.0) f.1
+      few_steps top ls (reported_by l told) (made_by l b ++ w) left after (parts_made told l b w i f.0) (few_made told top l b w i.0.box e f.0) f.1
 
   few_waiting : (top : ℕ) (w : List Box) → Few top w → AllByRecursion (λ c. IsPart c m.cells) w → length m.cells ≤ top → length w + length m.cells ≤ top
   few_waiting top [] e g n = omega arith
@@ -156,4 +156,4 @@ fit_formed m s h told (Drop k v j t) b i f =
 fit_formed m s h told (Fork k t lower upper) b i f =
     let low = (low_part k t b b (part_self b i) f.0.cell f.0.below).box in
     let high = (high_part k t b b (part_self b i) f.0.cell f.0.above).box in
-    (f.0, fit_formed m s h told lower (low_side k t b) low f.1, fit_formed m s h (told_after lower told) upper (high_side k t b) high f.2)
+    (f.0, fit_formed m s h told lower (low_side k t b) low f.1, fit_formed m s h (reported_after lower told) upper (high_side k t b) high f.2)

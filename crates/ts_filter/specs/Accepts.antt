@@ -13,7 +13,7 @@ use Rattle.ts_model.specs.Meets.{Meets}
 use Rattle.ts_model.specs.ModelParts.{ModelParts}
 use Rattle.ts_filter.specs.RefutedWorseDrop.{Spans}
 use Rattle.ts_filter.specs.Rules.{head_of}
-use Rattle.ts_filter.specs.Tree.{Tree, tree_lines, told_after, Fits}
+use Rattle.ts_filter.specs.Tree.{Tree, tree_lines, reported_after, Fits}
 
 -- after `maximise` and `minimise` the model has an objective
 abbrev pub AimFits : ModelParts → Aim → Type 0
@@ -64,16 +64,16 @@ AllFit m claim before [] = Unit {0}
 AllFit m claim before (x ∷ xs) = SeriesFits m claim before x × AllFit m claim (before ++ x ∷ []) xs
 
 -- in a listing each series had its `yes`
-abbrev pub AllTold : Aim → ℕ → ℕ → Type 0
-AllTold (BestOf goal) told listed = Unit {0}
-AllTold (ListOf count) told listed = told ≡ listed
+abbrev pub AllReported : Aim → ℕ → ℕ → Type 0
+AllReported (BestOf goal) reported listed = Unit {0}
+AllReported (ListOf count) reported listed = reported ≡ listed
 
 -- the tree lines are those of one tree for the model's box
 pub record HasTree (m : ModelParts) (s : Spans) (c : Cert) : Type 0 where
   pub tree : Tree
   pub lines : tree_lines tree ≡ c.tree
   pub fits : Fits m s (head_of c) 0 m.cells tree
-  pub told : AllTold c.aim (told_after tree 0) (length c.series)
+  pub reported : AllReported c.aim (reported_after tree 0) (length c.series)
 
 pub record Accepts (m : ModelParts) (s : Spans) (c : Cert) : Type 0 where
   pub aim : AimFits m c.aim

@@ -6,7 +6,7 @@ use Rattle.ts_base.specs.Limits.{IsCellValue}
 use Rattle.ts_bound.specs.TermSpans.{Automata, IsUsable, term_span, value_span}
 use Rattle.ts_model.specs.declared.model.Require.{Require}
 use Rattle.ts_filter.specs.declared.drops.Removal.{Removal}
-use Rattle.ts_filter.specs.declared.spares.Told.{Told}
+use Rattle.ts_filter.specs.declared.spares.Answer.{Answer}
 use Rattle.ts_filter.specs.Boxes.{Box, values_at}
 use Rattle.ts_filter.specs.RefutedWorseDrop.{Spans, IsDrop, IsRefuted, IsRequirement}
 use Rattle.ts_filter.specs.TermDrops.{IsDropAt, IsFirstRefuting, IsRefuting, IsTermDrop}
@@ -102,7 +102,7 @@ pub record Tells {A : Type 0} (knows : List Require → Spans → Box → A → 
   pub drops : (r : Removal) → IsTermDrop requirements term a b r → IsDrop requirements spans r.cell r.value r.require b
 
 -- no value of cell k from v on is dropped, as far as is known, by a requirement of the term whose machine this is
-abbrev pub AreFree : List Require → ℕ → Automata → Box → ℕ → ℤ → Told → Type 0
-AreFree requirements term a b k v told =
-    IsTrue told.free → (w : ℤ) → Contains (values_at k b) w → v ≤ℤ w → w ≤ℤ told.to →
+abbrev pub AreFree : List Require → ℕ → Automata → Box → ℕ → ℤ → Answer → Type 0
+AreFree requirements term a b k v answer =
+    IsTrue answer.free → (w : ℤ) → Contains (values_at k b) w → v ≤ℤ w → w ≤ℤ answer.to →
     IsFirstRefuting requirements term (value_span a k b w) None

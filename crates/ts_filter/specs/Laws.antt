@@ -27,7 +27,7 @@ use Rattle.ts_filter.specs.RefutedWorseDrop.{Spans, IsUsable, IsRequirement, IsR
 use Rattle.ts_filter.specs.Rules.{Head}
 use Rattle.ts_filter.specs.Steps.{Steps}
 use Rattle.ts_filter.specs.Tests.{is_refuted, is_cut, is_drop}
-use Rattle.ts_filter.specs.Tree.{Tree, tree_lines, told_after, Fits, IsFormed}
+use Rattle.ts_filter.specs.Tree.{Tree, tree_lines, reported_after, Fits, IsFormed}
 
 -- What is asked of spans.
 
@@ -118,9 +118,9 @@ DropLeavesOthers =
 -- the lines of one tree for a box, each by its rule, are steps from the box to none
 abbrev pub TreeIsSteps : Type 0
 TreeIsSteps =
-    (m : ModelParts) (s : Spans) (h : Head) (b : Box) (ls : List TreeLine) (told : ℕ) →
-    ((t : Tree) × (tree_lines t ≡ ls) × Fits m s h 0 b t × (told_after t 0 ≡ told))
-    ↔ Steps m s h (b ∷ []) 0 ls [] told
+    (m : ModelParts) (s : Spans) (h : Head) (b : Box) (ls : List TreeLine) (reported : ℕ) →
+    ((t : Tree) × (tree_lines t ≡ ls) × Fits m s h 0 b t × (reported_after t 0 ≡ reported))
+    ↔ Steps m s h (b ∷ []) 0 ls [] reported
 
 -- a tree that is formed, for a box of S series, has at most 2·S - 1 lines
 abbrev pub FormedIsShort : Type 0
@@ -129,35 +129,35 @@ FormedIsShort = (t : Tree) (b : Box) → IsBox b → IsFormed b t → length (tr
 -- each tree whose lines keep their rules is formed
 abbrev pub FitIsFormed : Type 0
 FitIsFormed =
-    (m : ModelParts) (s : Spans) (h : Head) (told : ℕ) (t : Tree) (b : Box) → IsBox b → Fits m s h told b t →
+    (m : ModelParts) (s : Spans) (h : Head) (reported : ℕ) (t : Tree) (b : Box) → IsBox b → Fits m s h reported b t →
     IsFormed b t
 
 -- with V values in all domains together and n cells, at most V + 1 - n boxes wait at any time
 abbrev pub StepsLeaveFew : Type 0
 StepsLeaveFew =
-    (m : ModelParts) (s : Spans) (h : Head) (ls : List TreeLine) (waiting : List Box) (told : ℕ) → IsBox m.cells →
-    Steps m s h (m.cells ∷ []) 0 ls waiting told → length waiting + length m.cells ≤ total_of m.cells + 1
+    (m : ModelParts) (s : Spans) (h : Head) (ls : List TreeLine) (waiting : List Box) (reported : ℕ) → IsBox m.cells →
+    Steps m s h (m.cells ∷ []) 0 ls waiting reported → length waiting + length m.cells ≤ total_of m.cells + 1
 
 -- lines that keep their rules and more that keep theirs after them keep their rules together
 abbrev pub StepsGoOn : Type 0
 StepsGoOn =
     (m : ModelParts) (s : Spans) (h : Head) (ls more : List TreeLine) (waiting left end : List Box)
-    (told after last : ℕ) →
-    Steps m s h waiting told ls left after → Steps m s h left after more end last →
-    Steps m s h waiting told (ls ++ more) end last
+    (reported after last : ℕ) →
+    Steps m s h waiting reported ls left after → Steps m s h left after more end last →
+    Steps m s h waiting reported (ls ++ more) end last
 
 -- each line is in the ranges of the grammar, where the model keeps its limits
 abbrev pub LinesInRange : Type 0
 LinesInRange =
-    (m : ModelParts) (s : Spans) (h : Head) (ls : List TreeLine) (waiting : List Box) (told : ℕ) → IsBox m.cells →
+    (m : ModelParts) (s : Spans) (h : Head) (ls : List TreeLine) (waiting : List Box) (reported : ℕ) → IsBox m.cells →
     length m.cells ≤ most_cells → length m.requirements ≤ most_requirements →
-    Steps m s h (m.cells ∷ []) 0 ls waiting told → list_all is_tree_line ls ≡ true
+    Steps m s h (m.cells ∷ []) 0 ls waiting reported → list_all is_tree_line ls ≡ true
 
 -- each box that waits is one inside the model's
 abbrev pub WaitingAreParts : Type 0
 WaitingAreParts =
-    (m : ModelParts) (s : Spans) (h : Head) (ls : List TreeLine) (waiting : List Box) (told : ℕ) → IsBox m.cells →
-    Steps m s h (m.cells ∷ []) 0 ls waiting told → AllByRecursion (λ b. IsPart b m.cells) waiting
+    (m : ModelParts) (s : Spans) (h : Head) (ls : List TreeLine) (waiting : List Box) (reported : ℕ) → IsBox m.cells →
+    Steps m s h (m.cells ∷ []) 0 ls waiting reported → AllByRecursion (λ b. IsPart b m.cells) waiting
 
 -- Certificates.
 

@@ -6,12 +6,12 @@ use Rattle.ts_certificate.specs.declared.certificate.TreeLine.{TreeLine}
 use Rattle.ts_certificate.specs.Certificate.{Cert, cert_lines}
 use Rattle.ts_certificate.specs.Grammar.{CertLine, SaysAim, SaysClaim, SaysSeries, SaysTree, SaysEnd}
 use Rattle.ts_model.specs.ModelParts.{ModelParts}
-use Rattle.ts_filter.specs.Accepts.{AimFits, ClaimFits, SeriesFits, AllTold}
+use Rattle.ts_filter.specs.Accepts.{AimFits, ClaimFits, SeriesFits, AllReported}
 use Rattle.ts_filter.specs.Boxes.{Box}
 use Rattle.ts_filter.specs.RefutedWorseDrop.{Spans}
 use Rattle.ts_filter.specs.Rules.{KeepsRule}
 use Rattle.ts_filter.specs.Steps.{made_by}
-use Rattle.ts_filter.specs.Tree.{told_by}
+use Rattle.ts_filter.specs.Tree.{reported_by}
 
 -- what the lines so far say and leave: the boxes that wait, the next one first, and the number of `yes` lines
 pub record Stand : Type 0 where
@@ -19,29 +19,29 @@ pub record Stand : Type 0 where
   pub claim : Option Claim
   pub series : List (List ℤ)
   pub waiting : List Box
-  pub told : ℕ
+  pub reported : ℕ
 
 -- what stands before the first line
 abbrev pub first_stand : ModelParts → Stand
-first_stand m = record { aim = None; claim = None; series = []; waiting = m.cells ∷ []; told = 0 }
+first_stand m = record { aim = None; claim = None; series = []; waiting = m.cells ∷ []; reported = 0 }
 
 -- the rule of a tree line: a box waits for it, and there it keeps the rule of its form
 abbrev pub KeepsTreeRule : ModelParts → Spans → Option Aim → Option Claim → List (List ℤ) → List Box → ℕ → TreeLine →
     Type 0
-KeepsTreeRule m s None claim series waiting told l = ⊥
-KeepsTreeRule m s (Some aim) None series waiting told l = ⊥
-KeepsTreeRule m s (Some aim) (Some claim) series [] told l = ⊥
-KeepsTreeRule m s (Some aim) (Some claim) series (b ∷ waiting) told l =
-    KeepsRule m s (record { aim = aim; claim = claim; series = series }) told b l
+KeepsTreeRule m s None claim series waiting reported l = ⊥
+KeepsTreeRule m s (Some aim) None series waiting reported l = ⊥
+KeepsTreeRule m s (Some aim) (Some claim) series [] reported l = ⊥
+KeepsTreeRule m s (Some aim) (Some claim) series (b ∷ waiting) reported l =
+    KeepsRule m s (record { aim = aim; claim = claim; series = series }) reported b l
 
 -- the line keeps its rule after lines that leave this
 abbrev pub KeepsLine : ModelParts → Spans → Stand → CertLine → Type 0
 KeepsLine m s t (SaysAim a) = AimFits m a
 KeepsLine m s t (SaysClaim c) = MatchOption t.aim ⊥ (λ a. ClaimFits a c)
 KeepsLine m s t (SaysSeries x) = MatchOption t.claim ⊥ (λ c. SeriesFits m c t.series x)
-KeepsLine m s t (SaysTree l) = KeepsTreeRule m s t.aim t.claim t.series t.waiting t.told l
+KeepsLine m s t (SaysTree l) = KeepsTreeRule m s t.aim t.claim t.series t.waiting t.reported l
 KeepsLine m s t (SaysEnd checked unsearched) =
-    MatchOption t.aim ⊥ (λ a. (t.waiting ≡ []) × AllTold a t.told (length t.series))
+    MatchOption t.aim ⊥ (λ a. (t.waiting ≡ []) × AllReported a t.reported (length t.series))
 
 abbrev pub waiting_after : List Box → TreeLine → List Box
 waiting_after [] l = []
@@ -52,7 +52,7 @@ abbrev pub stand_after : Stand → CertLine → Stand
 stand_after t (SaysAim a) = record t { aim = Some a }
 stand_after t (SaysClaim c) = record t { claim = Some c }
 stand_after t (SaysSeries x) = record t { series = t.series ++ x ∷ [] }
-stand_after t (SaysTree l) = record t { waiting = waiting_after t.waiting l; told = told_by l t.told }
+stand_after t (SaysTree l) = record t { waiting = waiting_after t.waiting l; reported = reported_by l t.reported }
 stand_after t (SaysEnd checked unsearched) = t
 
 -- each line keeps its rule, and all of them lead to this stand

@@ -52,10 +52,10 @@ IsListing (BestOf goal) = ⊥
 IsListing (ListOf count) = Unit {0}
 
 -- `yes`, after some of these lines: the aim is `generate`, and the box is the next listed series alone
-pub record IsNext (h : Head) (told : ℕ) (b : Box) : Type 0 where
+pub record IsNext (h : Head) (reported : ℕ) (b : Box) : Type 0 where
   pub listing : IsListing h.aim
   pub series : List ℤ
-  pub listed : slice_get h.series told ≡ Some series
+  pub listed : slice_get h.series reported ≡ Some series
   pub alone : b ≡ box_of series
 
 -- `open`: the claim is `budget V`, `budget none`, `full C` or `budget C`
@@ -70,9 +70,9 @@ MayStayOpen (BudgetList c) = Unit {0}
 
 -- the line keeps its rule on the box, after some `yes` lines
 abbrev pub KeepsRule : ModelParts → Spans → Head → ℕ → Box → TreeLine → Type 0
-KeepsRule m s h told b (Split k t) = IsSplit k t b
-KeepsRule m s h told b (Remove k v j) = IsDrop m.requirements s k v j b
-KeepsRule m s h told b (No j p) = IsRefuted m.requirements s j p b
-KeepsRule m s h told b (Worse p) = MayBeWorse m s h p b
-KeepsRule m s h told b Yes = IsNext h told b
-KeepsRule m s h told b Unsearched = MayStayOpen h.claim
+KeepsRule m s h reported b (Split k t) = IsSplit k t b
+KeepsRule m s h reported b (Remove k v j) = IsDrop m.requirements s k v j b
+KeepsRule m s h reported b (No j p) = IsRefuted m.requirements s j p b
+KeepsRule m s h reported b (Worse p) = MayBeWorse m s h p b
+KeepsRule m s h reported b Yes = IsNext h reported b
+KeepsRule m s h reported b Unsearched = MayStayOpen h.claim

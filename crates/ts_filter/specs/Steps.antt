@@ -6,7 +6,7 @@ use Rattle.ts_model.specs.ModelParts.{ModelParts}
 use Rattle.ts_filter.specs.Boxes.{Box, low_side, high_side, without}
 use Rattle.ts_filter.specs.RefutedWorseDrop.{Spans}
 use Rattle.ts_filter.specs.Rules.{Head, KeepsRule}
-use Rattle.ts_filter.specs.Tree.{told_by}
+use Rattle.ts_filter.specs.Tree.{reported_by}
 
 -- the boxes that wait in place of the line's box, the one to be treated next first
 abbrev pub made_by : TreeLine → Box → List Box
@@ -19,10 +19,10 @@ made_by Unsearched b = []
 
 -- from the boxes that wait and the `yes` lines so far, lines that keep their rules lead to those boxes and that number
 abbrev pub Steps : ModelParts → Spans → Head → List Box → ℕ → List TreeLine → List Box → ℕ → Type 0
-Steps m s h waiting told [] left after = (waiting ≡ left) × (told ≡ after)
-Steps m s h [] told (l ∷ ls) left after = ⊥
-Steps m s h (b ∷ waiting) told (l ∷ ls) left after =
-    KeepsRule m s h told b l × Steps m s h (made_by l b ++ waiting) (told_by l told) ls left after
+Steps m s h waiting reported [] left after = (waiting ≡ left) × (reported ≡ after)
+Steps m s h [] reported (l ∷ ls) left after = ⊥
+Steps m s h (b ∷ waiting) reported (l ∷ ls) left after =
+    KeepsRule m s h reported b l × Steps m s h (made_by l b ++ waiting) (reported_by l reported) ls left after
 
 abbrev pub opened_by : TreeLine → Box → List Box → List Box
 opened_by (Split k t) b opens = opens

@@ -20,19 +20,19 @@ tree_lines (Drop k v j t) = Remove k v j ∷ tree_lines t
 tree_lines (Fork k t lower upper) = Split k t ∷ (tree_lines lower ++ tree_lines upper)
 
 -- the number of `yes` lines after this one
-abbrev pub told_by : TreeLine → ℕ → ℕ
-told_by (Split k t) told = told
-told_by (Remove k v j) told = told
-told_by (No j p) told = told
-told_by (Worse p) told = told
-told_by Yes told = told + 1
-told_by Unsearched told = told
+abbrev pub reported_by : TreeLine → ℕ → ℕ
+reported_by (Split k t) reported = reported
+reported_by (Remove k v j) reported = reported
+reported_by (No j p) reported = reported
+reported_by (Worse p) reported = reported
+reported_by Yes reported = reported + 1
+reported_by Unsearched reported = reported
 
 -- the number of `yes` lines after the tree
-abbrev pub told_after : Tree → ℕ → ℕ
-told_after (Leaf l) told = told_by l told
-told_after (Drop k v j t) told = told_after t told
-told_after (Fork k t lower upper) told = told_after upper (told_after lower told)
+abbrev pub reported_after : Tree → ℕ → ℕ
+reported_after (Leaf l) reported = reported_by l reported
+reported_after (Drop k v j t) reported = reported_after t reported
+reported_after (Fork k t lower upper) reported = reported_after upper (reported_after lower reported)
 
 -- the line ends its box
 abbrev pub IsLeafLine : TreeLine → Type 0
@@ -45,11 +45,11 @@ IsLeafLine Unsearched = Unit {0}
 
 -- a tree for the box, each of whose lines keeps its rule
 abbrev pub Fits : ModelParts → Spans → Head → ℕ → Box → Tree → Type 0
-Fits m s h told b (Leaf l) = IsLeafLine l × KeepsRule m s h told b l
-Fits m s h told b (Drop k v j t) = IsDrop m.requirements s k v j b × Fits m s h told (without k v b) t
-Fits m s h told b (Fork k t lower upper) =
-    IsSplit k t b × Fits m s h told (low_side k t b) lower
-    × Fits m s h (told_after lower told) (high_side k t b) upper
+Fits m s h reported b (Leaf l) = IsLeafLine l × KeepsRule m s h reported b l
+Fits m s h reported b (Drop k v j t) = IsDrop m.requirements s k v j b × Fits m s h reported (without k v b) t
+Fits m s h reported b (Fork k t lower upper) =
+    IsSplit k t b × Fits m s h reported (low_side k t b) lower
+    × Fits m s h (reported_after lower reported) (high_side k t b) upper
 
 -- v is a value of cell k, and not its only one
 pub record Removes (k : ℕ) (v : ℤ) (b : Box) : Type 0 where

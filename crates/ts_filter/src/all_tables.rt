@@ -154,7 +154,7 @@ impl<'a> AllTables<'a> {
         requires looks { OfTerm self.old.machines r.now.term (λ a. LooksIn a cells.now.present) }
         requires on { self.old.cells ≡ cells.now.present }
         ensures same { self.new ≡ self.old }
-        ensures told { IfOk result (λ told. OfTerm self.old.machines r.now.term (λ a. IsTrue told
+        ensures answered { IfOk result (λ told. OfTerm self.old.machines r.now.term (λ a. IsTrue told
             ↔ Refutes r.now.op r.now.bound (term_span a p cells.now.present))) }
     {
         let asked = Question::Compares(r.op, r.bound);
@@ -178,7 +178,7 @@ impl<'a> AllTables<'a> {
         requires looks { OfTerm self.old.machines term (λ a. LooksIn a cells.now.present) }
         requires on { self.old.cells ≡ cells.now.present }
         ensures same { self.new ≡ self.old }
-        ensures told { IfOk result (λ told. OfTerm self.old.machines term (λ a. IsTrue told
+        ensures answered { IfOk result (λ told. OfTerm self.old.machines term (λ a. IsTrue told
             ↔ Cuts goal (Better bar) (term_span a p cells.now.present))) }
     {
         let asked = Question::Counts(goal, Bar::Better(bar));
@@ -202,7 +202,7 @@ impl<'a> AllTables<'a> {
         requires value { Contains (cell_of k cells.now) v }
         requires on { self.old.cells ≡ cells.now.present }
         ensures same { self.new ≡ self.old }
-        ensures told { IfOk result (λ told. OfTerm self.old.machines r.now.term (λ a. IsTrue told
+        ensures answered { IfOk result (λ told. OfTerm self.old.machines r.now.term (λ a. IsTrue told
             ↔ Refutes r.now.op r.now.bound (term_span a k (only k v cells.now.present)))) }
     {
         let asked = Question::Compares(r.op, r.bound);
@@ -241,7 +241,7 @@ impl<'a> AllTables<'a> {
         requires looks { OfTerm self.old.machines term (λ a. LooksIn a cells.now.present) }
         requires on { self.old.cells ≡ cells.now.present }
         ensures same { self.new ≡ self.old }
-        ensures told { IfOk result (λ told. OfTerm self.old.machines term (λ a. IsTrue told
+        ensures answered { IfOk result (λ told. OfTerm self.old.machines term (λ a. IsTrue told
             ↔ Cuts goal bar (term_span a (length cells.now.present) cells.now.present))) }
     {
         let n = cells.cells();

@@ -42,7 +42,7 @@ impl<'a> AllTables<'a> {
         requires looks { OfTerm self.old.machines term (λ a. LooksIn a cells.now.present) }
         requires on { self.old.cells ≡ cells.now.present }
         ensures same { self.new ≡ self.old }
-        ensures told { IfOk result (λ told. OfTerm self.old.machines term (λ a. IsTrue told
+        ensures answered { IfOk result (λ told. OfTerm self.old.machines term (λ a. IsTrue told
             ↔ Excludes asked.entry (term_span a p cells.now.present))) }
     {
         let keeps = self.keeps;
@@ -69,7 +69,7 @@ impl<'a> AllTables<'a> {
         requires value { Contains (cell_of k cells.now) v }
         requires on { self.old.cells ≡ cells.now.present }
         ensures same { self.new ≡ self.old }
-        ensures told { IfOk result (λ told. OfTerm self.old.machines term (λ a. IsTrue told
+        ensures answered { IfOk result (λ told. OfTerm self.old.machines term (λ a. IsTrue told
             ↔ Excludes asked.entry (term_span a k (only k v cells.now.present)))) }
     {
         let keeps = self.keeps;

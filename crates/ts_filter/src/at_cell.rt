@@ -35,7 +35,7 @@ impl<'a> BoxTables<'a> {
         requires looks { LooksIn self.old.machine cells.now.present }
         requires known { AreKnown cells.now.present self.old }
         ensures known { StillKnown cells.now.present self.old self.new }
-        ensures told { IfOk result (λ told. IsTrue told
+        ensures answered { IfOk result (λ told. IsTrue told
             ↔ Excludes asked.entry (term_span self.old.machine p cells.now.present)) }
     {
         let k = self.read_at(p);
@@ -65,7 +65,7 @@ impl<'a> BoxTables<'a> {
         requires known { AreKnown cells.now.present self.old }
         requires value { Contains (cell_of k cells.now) v }
         ensures known { StillKnown cells.now.present self.old self.new }
-        ensures told { IfOk result (λ told. IsTrue told
+        ensures answered { IfOk result (λ told. IsTrue told
             ↔ Excludes asked.entry (term_span self.old.machine k (only k v cells.now.present))) }
     {
         if !self.looks_at(k) {

@@ -25,7 +25,7 @@ use crate::held_machine::HeldMachine;
 use crate::kept_cells::{KeptTerm, is_alive, spared_to};
 use crate::placed_values::PlacedValues;
 use crate::question::Question;
-use crate::spares::{NothingSpared, Spares, Told};
+use crate::spares::{Answer, NothingSpared, Spares};
 use crate::term_requirements::TermRequirements;
 use std::alloc::Global;
 use ts_base::Memory;
@@ -388,13 +388,18 @@ fn after_run(
 }
 
 /// What is known of the value `v` of the cell, and of those after it.
-fn told_of<S: Spares>(hulls: &CellHulls<'_>, own: TermRequirements<'_>, v: i64, spares: &S) -> Told
+fn told_of<S: Spares>(
+    hulls: &CellHulls<'_>,
+    own: TermRequirements<'_>,
+    v: i64,
+    spares: &S,
+) -> Answer
     requires usable { IsUsable hulls.now.machine hulls.now.cell hulls.now.cells }
     requires many { 2 ≤ length (values_at hulls.now.cell hulls.now.cells) }
     requires value { Contains (values_at hulls.now.cell hulls.now.cells) v }
     requires spares { Tells S.knows own.all.now own.term hulls.now.machine hulls.now.cells spares.now }
     ensures to { v ≤ℤ result.to }
-    ensures told { AreFree own.entry.all.now own.entry.term
+    ensures answered { AreFree own.entry.all.now own.entry.term
         hulls.now.machine hulls.now.cells hulls.now.cell v result }
 {
     spares.tell(own.all, own.term, hulls.cell(), v, hulls.cells)

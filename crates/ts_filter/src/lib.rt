@@ -60,5 +60,5 @@ pub use excluded::{counts, cuts, refutes};
 pub use first_cell::{first_cut, first_refuted};
 pub use kept::kept_value;
 pub use kept_cells::KeptCells;
-pub use spares::{NothingSpared, Spares, Told};
+pub use spares::{Answer, NothingSpared, Spares};
 pub use ts_base::Goal;

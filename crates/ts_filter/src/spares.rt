@@ -6,7 +6,7 @@ use ts_model::Require;
 /// What is known of the values of a cell from one that was asked about up to `to`: whether no requirement on a term
 /// drops any of them. Where it isn't known, nothing is said of them, and asking about another one of these is in vain.
 #[derive(Clone, Copy)]
-pub struct Told {
+pub struct Answer {
     pub free: bool,
     pub to: i64,
 }
@@ -23,7 +23,7 @@ pub trait Spares {
     ghost knows: { List Require → Spans → Box → Self → Type 0 };
 
     /// What is known of the values of cell `k` from `v` on, by the requirements on the term.
-    fn tell(&self, requirements: &[Require], term: u32, k: u32, v: i64, cells: &Boxed) -> Told
+    fn tell(&self, requirements: &[Require], term: u32, k: u32, v: i64, cells: &Boxed) -> Answer
         requires cell { HasCell k cells.now.present }
         requires value { Contains (values_at k cells.now.present) v }
         requires knows { (s : Spans) × knows requirements.now s cells.now.present self.now }
@@ -39,8 +39,8 @@ pub struct NothingSpared;
 impl Spares for NothingSpared {
     ghost knows = { λ rs s b x. Unit {0} };
 
-    fn tell(&self, _: &[Require], _: u32, _: u32, _: i64, _: &Boxed) -> Told {
-        Told {
+    fn tell(&self, _: &[Require], _: u32, _: u32, _: i64, _: &Boxed) -> Answer {
+        Answer {
             free: false,
             to: i64::MAX,
         }

@@ -90,7 +90,7 @@ cert_line : (m : ModelParts) (s : Spans) (top : ℕ) (t : Stand) (l : CertLine) 
 cert_line m s top t (SaysAim a) k h = h
 cert_line m s top t (SaysClaim c) k h = h
 cert_line m s top t (SaysSeries x) k h = h
-cert_line m s top t (SaysTree l) k h = tree_line m s top t.aim t.claim t.series t.waiting t.told l k h
+cert_line m s top t (SaysTree l) k h = tree_line m s top t.aim t.claim t.series t.waiting t.reported l k h
 cert_line m s top t (SaysEnd checked unsearched) k h = h
 
 cert_lines : (m : ModelParts) (s : Spans) (top : ℕ) (t : Stand) (ls : List CertLine) (u : Stand) → Leads m s t ls u → Bounded top m.cells t.waiting →

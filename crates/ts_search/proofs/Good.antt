@@ -16,7 +16,7 @@ use Rattle.ts_filter.specs.Boxes.{Box, IsPart, InSome, only}
 use Rattle.ts_filter.specs.RefutedWorseDrop.{IsCut}
 use Rattle.ts_filter.specs.Rules.{Head, claimed_value, KeepsRule}
 use Rattle.ts_filter.specs.Steps.{made_by, Steps}
-use Rattle.ts_filter.specs.Tree.{told_by}
+use Rattle.ts_filter.specs.Tree.{reported_by}
 use Rattle.ts_filter.proofs.BoxParts.{from_without, in_a_side, only_or_without, only_part, part_self}
 use Rattle.ts_filter.proofs.TreeLaws.{parts_made, steps_go_on}
 use Rattle.ts_filter.proofs.SoundLaws.{clash}
@@ -88,7 +88,7 @@ put s b u l found = record { lines = s.lines ++ l ∷ []; pending = made_by l b 
 
 -- a line that leaves the found one as it is
 good_same : (c : Contest) (s : State) (b : Box) (u : List Box) (l : TreeLine) →
-    Good c s → s.pending ≡ b ∷ u → told_by l 0 ≡ 0 → IsChecked l → KeepsRule c.search.model c.search.spans (head_now c s.found) 0 b l →
+    Good c s → s.pending ≡ b ∷ u → reported_by l 0 ≡ 0 → IsChecked l → KeepsRule c.search.model c.search.spans (head_now c s.found) 0 b l →
     InOrder (made_by l b ++ u) →
     ((y : List ℤ) → Meets c.search.model y → InBox y b → InSome (made_by l b) y ⊎ Settled c s.found c.warm y) →
     ((f : Option Find) → s.found ≡ kept c f c.warm → s.found ≡ kept c (tally_after c f (form b) l) c.warm) →

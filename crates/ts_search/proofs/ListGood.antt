@@ -12,7 +12,7 @@ use Rattle.ts_filter.specs.Boxes.{Box, InSome, only}
 use Rattle.ts_filter.specs.Holds.{IsListed}
 use Rattle.ts_filter.specs.Rules.{Head, KeepsRule}
 use Rattle.ts_filter.specs.Steps.{made_by, Steps}
-use Rattle.ts_filter.specs.Tree.{told_by}
+use Rattle.ts_filter.specs.Tree.{reported_by}
 use Rattle.ts_filter.proofs.BoxParts.{from_without, in_a_side, only_or_without, only_part, part_self}
 use Rattle.ts_filter.proofs.TreeLaws.{parts_made, steps_go_on}
 use Rattle.ts_frontier.specs.Forms.{Alone, form}
@@ -55,7 +55,7 @@ list_put s b u l listed = record { lines = s.lines ++ l ∷ []; pending = made_b
 
 -- a line that lists nothing
 list_same : (c : Search) (count : ℕ) (s : ListState) (b : Box) (u : List Box) (l : TreeLine) → GoodList c count s → s.pending ≡ b ∷ u →
-    ((y : ℕ) → told_by l y ≡ y) → IsChecked l → KeepsRule c.model c.spans (head_so_far count s.listed) (length s.listed) b l → InOrder (made_by l b ++ u) →
+    ((y : ℕ) → reported_by l y ≡ y) → IsChecked l → KeepsRule c.model c.spans (head_so_far count s.listed) (length s.listed) b l → InOrder (made_by l b ++ u) →
     ((y : List ℤ) → Meets c.model y → InBox y b → InSome (made_by l b) y) → GoodList c count (list_put s b u l s.listed)
 list_same c count s b u l g at still ch keeps order treated =
     let n = length s.listed in

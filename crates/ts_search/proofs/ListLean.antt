@@ -4,7 +4,7 @@ use Rattle.ts_certificate.specs.declared.certificate.TreeLine.{TreeLine}
 use Rattle.ts_certificate.specs.declared.certificate.TreeLine.TheVariants.{Split, Remove, No, Worse, Yes, Unsearched}
 use Rattle.ts_filter.specs.Boxes.{Box, IsPart}
 use Rattle.ts_filter.specs.Steps.{made_by, Steps}
-use Rattle.ts_filter.specs.Tree.{told_by}
+use Rattle.ts_filter.specs.Tree.{reported_by}
 use Rattle.ts_search.specs.Drops.{or_later, next_drop}
 use Rattle.ts_frontier.specs.Forms.{Form, Alone, Wide, form}
 use Rattle.ts_search.specs.Lean.{IsFree, IsLeanLine, StandsInTime, or_open, sought_after, AreLean, most_reported}
@@ -81,7 +81,7 @@ no_limit q count (l ∷ ls) o y [] n = n
 no_limit q count (l ∷ ls) o y (b ∷ w) n = (
   free_follow count o y l n.0,
   n.1,
-  no_limit (sought_after q (form b) l) count ls (or_open o l) (told_by l y) (made_by l b ++ w) n.2,
+  no_limit (sought_after q (form b) l) count ls (or_open o l) (reported_by l y) (made_by l b ++ w) n.2,
 )
 
 as_claimed : (c : Search) (count k : ℕ) (ls : List TreeLine) (t : Bool) (w : List Box) → (t ≡ false → count ≡ k) →

@@ -104,7 +104,7 @@ to_list_tree : (c : Search) (count : ℕ) (claim : Claim) (xs : List (List ℤ))
     Steps c.model c.spans (head count claim xs) (c.model.cells ∷ []) 0 ls [] (length xs) → HasTree c.model c.spans (list_cert count claim xs ls)
 to_list_tree c count claim xs ls f =
     let t = (tree_is_steps c.model c.spans (head count claim xs) c.model.cells ls (length xs)).1 f in
-    record { tree = t.0; lines = t.1; fits = t.2; told = t.3 }
+    record { tree = t.0; lines = t.1; fits = t.2; reported = t.3 }
 
 list_more : (c : Search) (count : ℕ) (claim : Claim) (xs : List (List ℤ)) → (y : ℕ) (b : Box) (l : TreeLine) → IsChecked l →
     KeepsRule c.model c.spans (head_so_far count xs) y b l → KeepsRule c.model c.spans (head count claim xs) y b l

@@ -10,12 +10,12 @@ use Rattle.ts_certificate.specs.Certificate.{Cert, checked_count, open_count}
 use Rattle.ts_domain.specs.BoxSeries.{InBox, series_count}
 use Rattle.ts_model.specs.Meets.{Meets}
 use Rattle.ts_model.specs.ModelParts.{ModelParts}
-use Rattle.ts_filter.specs.Accepts.{AllTold}
+use Rattle.ts_filter.specs.Accepts.{AllReported}
 use Rattle.ts_filter.specs.Boxes.{Box, IsPart}
 use Rattle.ts_filter.specs.RefutedWorseDrop.{Spans}
 use Rattle.ts_filter.specs.Rules.{Head, head_of, claimed_value, MayStayOpen, IsWorseFor, KeepsRule}
 use Rattle.ts_filter.specs.Steps.{made_by, Steps}
-use Rattle.ts_filter.specs.Tree.{told_by, told_after}
+use Rattle.ts_filter.specs.Tree.{reported_by, reported_after}
 use Rattle.ts_filter.proofs.BoxParts.{only_series, part_self}
 use Rattle.ts_filter.proofs.TreeLaws.{parts_made}
 use Rattle.ts_filter.proofs.Answered.{told_more}
@@ -142,7 +142,7 @@ module _ (c : Search) (count : ℕ) where
 
   list_rest_checked : (h : Head) (most : Option ℕ) (o : Bool) (y z spare : ℕ) (b : Box) (w : List Box) (l : TreeLine) (ls : List TreeLine) →
       IsChecked l → ListRest c count h most o y z spare (b ∷ w) (l ∷ ls) →
-      ListRest c count h most o (told_by l y) z (spare - 1) (made_by l b ++ w) ls
+      ListRest c count h most o (reported_by l y) z (spare - 1) (made_by l b ++ w) ls
   list_rest_checked h most o y z spare b w l ls k r =
       let one = checked_one l ls k in
       let few = r.few in
@@ -150,7 +150,7 @@ module _ (c : Search) (count : ℕ) where
         claim = r.claim;
         meet = r.meet;
         steps = r.steps.1;
-        lean = subst (λ t. AreLean (TheFirst c) most t (told_by l y) (made_by l b ++ w) ls) (opens_same o l k) r.lean.2;
+        lean = subst (λ t. AreLean (TheFirst c) most t (reported_by l y) (made_by l b ++ w) ls) (opens_same o l k) r.lean.2;
         few = omega (arith, one.0);
         all = λ p. ⊎_elim (λ q. inl (omega (arith, one.0))) (λ q. inr q) (r.all (omega (arith, one.1)));
         room = r.room;
@@ -190,7 +190,7 @@ module _ (c : Search) (count : ℕ) where
         let rest = list_rest_checked h most o y z spare b w l ls k r in
         let also = list_rest_checked g other o y z' spare b w l ms k (subst (λ t. ListRest c count g other o y z' spare (b ∷ w) (t ∷ ms)) (sym p) s) in
         ap (λ t. l ∷ t)
-        (same_lists ls ms o (told_by l y) (spare - 1) (made_by l b ++ w)
+        (same_lists ls ms o (reported_by l y) (spare - 1) (made_by l b ++ w)
         (parts_made c.model c.spans h y l b w bs r.steps.0) rest also)
         ∙ ap (λ t. t ∷ ms) p)
         (λ q. absurd (list_too_early g h other most o y z' z spare b w l ms ls
@@ -211,7 +211,7 @@ module _ (m : ModelParts) (s : Spans) (h g : Head) where
   same_count : (ls : List TreeLine) (y : ℕ) (w v v' : List Box) (z z' : ℕ) → Steps m s h w y ls v z → Steps m s g w y ls v' z' → z ≡ z'
   same_count [] y w v v' z z' p q = sym p.1 ∙ q.1
   same_count (l ∷ ls) y [] v v' z z' p q = absurd p
-  same_count (l ∷ ls) y (b ∷ w) v v' z z' p q = same_count ls (told_by l y) (made_by l b ++ w) v v' z z' p.1 q.1
+  same_count (l ∷ ls) y (b ∷ w) v v' z z' p q = same_count ls (reported_by l y) (made_by l b ++ w) v v' z z' p.1 q.1
 
   same_told : (ls : List TreeLine) (y : ℕ) (w v v' : List Box) (z z' : ℕ) → Steps m s h w y ls v z → Steps m s g w y ls v' z' → (i : ℕ) → y ≤ i → i < z →
       slice_get h.series i ≡ slice_get g.series i
@@ -305,7 +305,7 @@ module _ (c : Search) (e : Known c) (count n : ℕ) where
   list_steps : (a : Cert) → HasList c count n a → Steps c.model c.spans (head_of a) (c.model.cells ∷ []) 0 a.tree [] (length a.series)
   list_steps a l =
       let t = l.accepts.tree in
-      let all : told_after t.tree 0 ≡ length a.series = subst (λ z. AllTold z (told_after t.tree 0) (length a.series)) l.aim t.told in
+      let all : reported_after t.tree 0 ≡ length a.series = subst (λ z. AllReported z (reported_after t.tree 0) (length a.series)) l.aim t.reported in
       subst (λ z. Steps c.model c.spans (head_of a) (c.model.cells ∷ []) 0 a.tree [] z) all (steps_of c.model c.spans a t)
 
   abbrev IsLean : Cert → Type 0

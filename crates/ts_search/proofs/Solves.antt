@@ -76,7 +76,7 @@ module _ (c : Contest) where
       HasTree c.search.model c.search.spans (solve_cert c claim xs ls)
   to_tree claim xs ls f =
       let t = (tree_is_steps c.search.model c.search.spans (head c claim xs) c.search.model.cells ls 0).1 f in
-      record { tree = t.0; lines = t.1; fits = t.2; told = tt }
+      record { tree = t.0; lines = t.1; fits = t.2; reported = tt }
 
   -- the rules of checked lines ask the claim's value alone
   same_value : (claim other : Claim) (xs ys : List (List ℤ)) →

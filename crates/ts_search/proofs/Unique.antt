@@ -17,7 +17,7 @@ use Rattle.ts_filter.specs.Boxes.{Box}
 use Rattle.ts_filter.specs.RefutedWorseDrop.{Spans}
 use Rattle.ts_filter.specs.Rules.{Head, head_of, MayStayOpen}
 use Rattle.ts_filter.specs.Steps.{made_by, Steps}
-use Rattle.ts_filter.specs.Tree.{told_by, told_after}
+use Rattle.ts_filter.specs.Tree.{reported_by, reported_after}
 use Rattle.ts_filter.proofs.BoxParts.{part_self}
 use Rattle.ts_filter.proofs.TreeLaws.{parts_made, to_steps, formed_short, fit_formed}
 use Rattle.ts_search.specs.Dive.{Find}
@@ -71,9 +71,9 @@ lean_append m s most h o (l ∷ ls) ms q y (b ∷ w) left after a st n k =
     let next = sought_after q (form b) l in (
       n.0,
       n.1,
-      subst (λ z. AreLean next most z (told_by l y) (made_by l b ++ w) (ls ++ ms)) (sym same)
-          (lean_append m s most h o ls ms next (told_by l y) (made_by l b ++ w) left after a.1 st.1
-          (subst (λ z. AreLean next most z (told_by l y) (made_by l b ++ w) ls) same n.2)
+      subst (λ z. AreLean next most z (reported_by l y) (made_by l b ++ w) (ls ++ ms)) (sym same)
+          (lean_append m s most h o ls ms next (reported_by l y) (made_by l b ++ w) left after a.1 st.1
+          (subst (λ z. AreLean next most z (reported_by l y) (made_by l b ++ w) ls) same n.2)
           (subst (λ z. AreLean z most o after left ms) (sought_more q b w l ls) k)),
     )
 
@@ -178,14 +178,14 @@ module _ (c : Contest) where
 
   rest_checked : (h : Head) (most : Option ℕ) (f : Option Find) (o : Bool) (y z spare : ℕ) (b : Box) (w : List Box) (l : TreeLine) (ls : List TreeLine) →
       IsChecked l → Rest c h most f o y z spare (b ∷ w) (l ∷ ls) →
-      Rest c h most (tally_after c f (form b) l) o (told_by l y) z (spare - 1) (made_by l b ++ w) ls
+      Rest c h most (tally_after c f (form b) l) o (reported_by l y) z (spare - 1) (made_by l b ++ w) ls
   rest_checked h most f o y z spare b w l ls k r =
       let one = checked_one l ls k in
       let few = r.few in
       record {
         aim = r.aim;
         steps = r.steps.1;
-        lean = subst (λ z. AreLean (TheBest c (tally_after c f (form b) l)) most z (told_by l y) (made_by l b ++ w) ls) (opens_same o l k) r.lean.2;
+        lean = subst (λ z. AreLean (TheBest c (tally_after c f (form b) l)) most z (reported_by l y) (made_by l b ++ w) ls) (opens_same o l k) r.lean.2;
         few = omega (arith, one.0);
         all = λ p. (let q = r.all (omega (arith, one.1)) in omega (arith, one.0));
       }
@@ -217,7 +217,7 @@ module _ (c : Contest) where
         let rest = rest_checked h most f o y z spare b w l ls k r in
         let also = rest_checked g other f o y z' spare b w l ms k (subst (λ t. Rest c g other f o y z' spare (b ∷ w) (t ∷ ms)) (sym p) s) in
         ap (λ t. l ∷ t)
-        (same_trees ls ms (tally_after c f (form b) l) o (told_by l y) (spare - 1) (made_by l b ++ w)
+        (same_trees ls ms (tally_after c f (form b) l) o (reported_by l y) (spare - 1) (made_by l b ++ w)
         (parts_made c.search.model c.search.spans h y l b w bs r.steps.0) rest also)
         ∙ ap (λ t. t ∷ ms) p)
         (λ q. absurd (too_early g h other most f o y z' z spare b w l ms ls (subst (λ t. Rest c g other f o y z' spare (b ∷ w) (t ∷ ms)) q s) k r))
@@ -320,9 +320,9 @@ module _ (c : Contest) (n : ℕ) (ls : List TreeLine) (xs ys : List (List ℤ)) 
   same_claim BudgetNone (BudgetList i) s t k m = absurd t
 
 -- the steps of an accepted certificate
-pub steps_of : (m : ModelParts) (s : Spans) (a : Cert) (t : HasTree m s a) → Steps m s (head_of a) (m.cells ∷ []) 0 a.tree [] (told_after t.tree 0)
+pub steps_of : (m : ModelParts) (s : Spans) (a : Cert) (t : HasTree m s a) → Steps m s (head_of a) (m.cells ∷ []) 0 a.tree [] (reported_after t.tree 0)
 steps_of m s a t =
-    subst (λ z. Steps m s (head_of a) (m.cells ∷ []) 0 z [] (told_after t.tree 0)) t.lines (to_steps m s (head_of a) m.cells t.tree t.fits)
+    subst (λ z. Steps m s (head_of a) (m.cells ∷ []) 0 z [] (reported_after t.tree 0)) t.lines (to_steps m s (head_of a) m.cells t.tree t.fits)
 
 pub same_certificate : (a b : Cert) → a.aim ≡ b.aim → a.claim ≡ b.claim → a.series ≡ b.series → a.tree ≡ b.tree → a ≡ b
 same_certificate a b p q r t =
@@ -337,11 +337,11 @@ module _ (c : Contest) (k : Known c.search) (n : ℕ) where
 
   closed_of : (a : Cert) → HasClaim c n a → (MayStayOpen a.claim → ⊥) → open_count a.tree ≡ 0
   closed_of a s none =
-      closed_steps c.search.model c.search.spans (head_of a) none a.tree 0 (c.search.model.cells ∷ []) [] (told_after s.accepts.tree.tree 0)
+      closed_steps c.search.model c.search.spans (head_of a) none a.tree 0 (c.search.model.cells ∷ []) [] (reported_after s.accepts.tree.tree 0)
       (steps_of c.search.model c.search.spans a s.accepts.tree)
 
   rest_of : (a : Cert) (s : HasClaim c n a) → IsLean a →
-      Rest c (head_of a) (most_reported a.claim) None false 0 (told_after s.accepts.tree.tree 0) n (c.search.model.cells ∷ []) a.tree
+      Rest c (head_of a) (most_reported a.claim) None false 0 (reported_after s.accepts.tree.tree 0) n (c.search.model.cells ∷ []) a.tree
   rest_of a s l = record {
     aim = s.aim;
     steps = steps_of c.search.model c.search.spans a s.accepts.tree;
@@ -353,8 +353,8 @@ module _ (c : Contest) (k : Known c.search) (n : ℕ) where
   -- the rules leave no line to choose
   pub one_certificate : (a b : Cert) → HasClaim c n a → IsLean a → HasClaim c n b → IsLean b → a ≡ b
   one_certificate a b s l t m =
-      let trees = same_trees c (head_of a) (head_of b) (most_reported a.claim) (most_reported b.claim) (told_after s.accepts.tree.tree 0)
-      (told_after t.accepts.tree.tree 0)
+      let trees = same_trees c (head_of a) (head_of b) (most_reported a.claim) (most_reported b.claim) (reported_after s.accepts.tree.tree 0)
+      (reported_after t.accepts.tree.tree 0)
       a.tree b.tree None false 0 n (c.search.model.cells ∷ []) (part_self c.search.model.cells k.box, tt) (rest_of a s l) (rest_of b t m) in
       let claims = same_claim c n b.tree a.series b.series a.claim b.claim (subst (λ z. IsSolvedBy c n a.claim a.series z) trees s.claim) t.claim
       (λ none. subst (λ z. open_count z ≡ 0) trees (closed_of a s none)) (closed_of b t) in

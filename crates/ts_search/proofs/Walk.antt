@@ -8,7 +8,7 @@ use Rattle.ts_filter.specs.Boxes.{Box}
 use Rattle.ts_filter.specs.RefutedWorseDrop.{Spans}
 use Rattle.ts_filter.specs.Rules.{Head, MayStayOpen, KeepsRule}
 use Rattle.ts_filter.specs.Steps.{made_by, Steps}
-use Rattle.ts_filter.specs.Tree.{told_by}
+use Rattle.ts_filter.specs.Tree.{reported_by}
 use Rattle.ts_search.specs.Dive.{Find}
 use Rattle.ts_frontier.specs.Forms.{form}
 use Rattle.ts_search.specs.Found.{tally_after, tally}
@@ -37,7 +37,7 @@ module _ (m : ModelParts) (s : Spans) where
   steps_under h g r [] y w left after a f = f
   steps_under h g r (l ∷ ls) y [] left after a f = f
   steps_under h g r (l ∷ ls) y (b ∷ w) left after a f =
-      (r y b l a.0 f.0, steps_under h g r ls (told_by l y) (made_by l b ++ w) left after a.1 f.1)
+      (r y b l a.0 f.0, steps_under h g r ls (reported_by l y) (made_by l b ++ w) left after a.1 f.1)
 
   pub open_steps : (h : Head) → MayStayOpen h.claim → (w : List Box) (y : ℕ) → Steps m s h w y (left_open w) [] y
   open_steps h o [] y = (refl, refl)
@@ -50,7 +50,7 @@ module _ (c : Contest) where
       Steps c.search.model c.search.spans h w y ls (b ∷ u) after → tally c f w (ls ++ l ∷ []) ≡ tally_after c (tally c f w ls) (form b) l
   tally_snoc h l b u [] f y w after p = ap (λ z. tally c f z (l ∷ [])) p.0
   tally_snoc h l b u (m ∷ ls) f y [] after p = absurd p
-  tally_snoc h l b u (m ∷ ls) f y (d ∷ w) after p = tally_snoc h l b u ls (tally_after c f (form d) m) (told_by m y) (made_by m d ++ w) after p.1
+  tally_snoc h l b u (m ∷ ls) f y (d ∷ w) after p = tally_snoc h l b u ls (tally_after c f (form d) m) (reported_by m y) (made_by m d ++ w) after p.1
 
   pub tally_open : (v : List Box) (ls : List TreeLine) (f : Option Find) (w : List Box) → tally c f w (ls ++ left_open v) ≡ tally c f w ls
   tally_open [] [] f w = refl

@@ -12,7 +12,7 @@ use Rattle.ts_filter.specs.declared.bar.Bar.TheVariants.{Better, AsGood}
 use Rattle.ts_filter.specs.Boxes.{Box}
 use Rattle.ts_filter.specs.RefutedWorseDrop.{Spans, IsRefuted}
 use Rattle.ts_filter.specs.Steps.{made_by}
-use Rattle.ts_filter.specs.Tree.{told_by}
+use Rattle.ts_filter.specs.Tree.{reported_by}
 use Rattle.ts_search.specs.Dive.{Find}
 use Rattle.ts_search.specs.Drops.{least, or_later, next_drop}
 use Rattle.ts_frontier.specs.Forms.{Form, Alone, Wide, form}
@@ -107,7 +107,7 @@ AreLean q most opened reported waiting [] = Unit {0}
 AreLean q most opened reported [] (l ∷ ls) = ⊥
 AreLean q most opened reported (b ∷ waiting) (l ∷ ls) =
     StandsInTime most opened reported l × IsLeanLine q b l
-    × AreLean (sought_after q (form b) l) most (or_open opened l) (told_by l reported) (made_by l b ++ waiting) ls
+    × AreLean (sought_after q (form b) l) most (or_open opened l) (reported_by l reported) (made_by l b ++ waiting) ls
 
 -- how many `yes` lines end a tree
 abbrev pub most_reported : Claim → Option ℕ

@@ -20,7 +20,7 @@ use std::alloc::Global;
 use ts_base::{Memory, Range};
 use ts_bound::ends;
 use ts_domain::{Boxed, Domain};
-use ts_filter::Told;
+use ts_filter::Answer;
 use ts_glue::Machine;
 use ts_model::Require;
 use ts_witness::{Spared, Witness};
@@ -36,7 +36,7 @@ const SOON: u32 = 8;
 const EACH: u32 = 32;
 
 /// Nothing is known of any value.
-pub(crate) const UNTOLD: Told = Told {
+pub(crate) const UNKNOWN: Answer = Answer {
     free: false,
     to: i64::MAX,
 };
@@ -277,7 +277,7 @@ impl<'a> Shown<'a> {
 
     /// What is known of the values from `v` on of cell `k` of `n`: the requirement drops none with which the series,
     /// which meets it, still does. Nothing is run.
-    pub(crate) fn tell(&self, r: &Require, k: u32, v: i64, n: u32) -> Told
+    pub(crate) fn tell(&self, r: &Require, k: u32, v: i64, n: u32) -> Answer
         requires held { IsHeld r.now self.now }
         requires looks { LooksInside n (window_of self.now.machine.now) }
         requires few { length (series_of self.now.witness) ≤ most_cells }
@@ -292,17 +292,17 @@ impl<'a> Shown<'a> {
             self.now.machine.now) r.now (series_of self.now.witness) (place_in (window_of self.now.machine.now) k) w }
     {
         if !self.met || self.machine.reverse().is_none() {
-            return UNTOLD;
+            return UNKNOWN;
         }
         let (first, last) = ends(self.machine.window(), n);
         if k < first || last < k {
-            return UNTOLD;
+            return UNKNOWN;
         }
         let place = k - (first - 1);
         let (free, to) = self
             .spared
             .keeps_from(&self.witness, self.machine, r, place, v);
-        Told { free, to }
+        Answer { free, to }
     }
 }
 

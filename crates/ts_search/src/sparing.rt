@@ -6,16 +6,16 @@ ghost use Rattle.ts_filter.specs.RefutedWorseDrop.{IsDrop, Spans};
 ghost use Rattle.ts_model.specs.declared.model.Require.{Require};
 ghost use Rattle.ts_search.specs.Shown.{Knows};
 
-use crate::shown::UNTOLD;
+use crate::shown::UNKNOWN;
 use crate::witnesses::Witnesses;
 use ts_domain::Boxed;
-use ts_filter::{Spares, Told};
+use ts_filter::{Answer, Spares};
 use ts_model::Require;
 
 impl<'a> Spares for Witnesses<'a> {
     ghost knows = { Knows };
 
-    fn tell(&self, requirements: &[Require], term: u32, k: u32, v: i64, cells: &Boxed) -> Told {
+    fn tell(&self, requirements: &[Require], term: u32, k: u32, v: i64, cells: &Boxed) -> Answer {
         let mut to = i64::MAX;
         for i in 0..requirements.len() {
             let one = self.tell_by_one(requirements, i, &requirements[i], term, k, v, cells);
@@ -24,7 +24,7 @@ impl<'a> Spares for Witnesses<'a> {
             }
             to = to.min(one.to);
         }
-        Told { free: true, to }
+        Answer { free: true, to }
     }
 }
 
@@ -40,7 +40,7 @@ impl<'a> Witnesses<'a> {
         k: u32,
         v: i64,
         cells: &Boxed,
-    ) -> Told
+    ) -> Answer
         requires is { slice_get requirements.now i ≡ Some r.now }
         requires cell { HasCell k cells.now.present }
         requires value { Contains (values_at k cells.now.present) v }
@@ -52,13 +52,13 @@ impl<'a> Witnesses<'a> {
             IsDrop requirements.now s k w (i + 1) cells.now.present → ⊥ }
     {
         if r.term != term {
-            return Told {
+            return Answer {
                 free: true,
                 to: i64::MAX,
             };
         }
         if i >= self.each.len() {
-            return UNTOLD;
+            return UNKNOWN;
         }
         self.each[i].tell(r, k, v, cells.cells())
     }

@@ -33,7 +33,7 @@ returns-clause-keeps c =
     drop_answered (model_parts c.args.model.now) c.bring.new.self.machines
     (brought (model_parts c.args.model.now) _ _ c.bring.ensures.machines c.requires.tables) c.args.b.now.present c.args.k c.args.v _ c.args.j c.in-Some.require
     c.deref.result.now c.cell.result.now c.is_usable.result c.refuted_value.result (to_z-of_z w64 c.args.v c.ranges.v) c.deref.ensures.value
-    c.in-Some.ensures c.cell.ensures (c.if-not-has_others.ensures.0 refl) c.if-not-is_usable.false c.is_usable.ensures c.refuted_value.ensures.told
+    c.in-Some.ensures c.cell.ensures (c.if-not-has_others.ensures.0 refl) c.if-not-is_usable.false c.is_usable.ensures c.refuted_value.ensures.answered
 
 pub returns-clause-may : goal.returns-clause-may
 returns-clause-may c =

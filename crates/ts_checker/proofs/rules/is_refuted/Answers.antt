@@ -7,7 +7,7 @@ returns-clause-keeps c =
     refuted_answered (model_parts c.args.model.now) c.bring.new.self.machines
     (brought (model_parts c.args.model.now) _ _ c.bring.ensures.machines c.requires.tables) c.args.b.now.present c.args.p c.args.j c.in-Some.require
     c.deref.result.now c.is_usable.result c.refuted.result c.deref.ensures.value c.in-Some.ensures c.if-not-is_usable.false c.is_usable.ensures
-    c.refuted.ensures.told
+    c.refuted.ensures.answered
 
 pub refuted-requires-clause-cell : goal.refuted-requires-clause-cell
 refuted-requires-clause-cell c =

@@ -8,7 +8,7 @@ returns-clause-keeps c =
     worse_answered (model_parts c.args.model.now) c.bring.new.self.machines
     (brought (model_parts c.args.model.now) _ _ c.bring.ensures.machines c.requires.tables) c.args.b.now.present (head_in c.args.head.now) c.in-Best-Some.goal
     c.in-Best-Some.bar c.in-Some.term c.args.p c.claimed.result c.is_usable.result c.worse.result c.in-Best-Some.is-0 c.claimed.ensures
-    c.in-Best-Some.is-1 c.in-Some.is c.if-not-is_usable.false c.is_usable.ensures c.worse.ensures.told
+    c.in-Best-Some.is-1 c.in-Some.is c.if-not-is_usable.false c.is_usable.ensures c.worse.ensures.answered
 
 pub worse-requires-clause-cell : goal.worse-requires-clause-cell
 worse-requires-clause-cell c =

@@ -13,4 +13,4 @@ returns c =
     subst (λ (a : Automata). IfOk c.excluded_at.result (λ told. IsTrue told ↔ Cuts c.args.goal c.args.bar (term_span a (length b) b)))
     c.new.ensures.machine
     (subst (λ n. IfOk c.excluded_at.result (λ told. IsTrue told ↔ Cuts c.args.goal c.args.bar (term_span c.new.result.machine n b)))
-    c.cells-n.ensures.count c.excluded_at.ensures.told)
+    c.cells-n.ensures.count c.excluded_at.ensures.answered)

@@ -15,4 +15,4 @@ returns c =
     subst (λ (a : Automata). IfOk c.value_excluded_at.result (λ told. IsTrue told ↔ Refutes r.op r.bound (term_span a k (only k c.args.v b))))
     c.new.ensures.machine
     (subst (λ (v : ℤ). IfOk c.value_excluded_at.result (λ told. IsTrue told ↔ Refutes r.op r.bound (term_span c.new.result.machine k (only k v b))))
-    (to_z-of_z w64 c.args.v c.ranges.v) c.value_excluded_at.ensures.told)
+    (to_z-of_z w64 c.args.v c.ranges.v) c.value_excluded_at.ensures.answered)

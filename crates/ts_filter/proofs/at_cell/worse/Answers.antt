@@ -13,4 +13,4 @@ returns c =
     subst
     (λ (a : Automata). IfOk c.excluded_at.result
     (λ told. IsTrue told ↔ Cuts c.args.goal (Better c.args.bar) (term_span a c.args.p c.args.cells.now.present)))
-    c.new.ensures.machine c.excluded_at.ensures.told
+    c.new.ensures.machine c.excluded_at.ensures.answered

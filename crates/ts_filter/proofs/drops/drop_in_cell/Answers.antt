@@ -82,7 +82,7 @@ first_between-found-requires-clause-free g c =
     (sym (ap (λ l. slice_get l c.loop-i.i) c.loop-i.invariant.2) ∙ c.at-value.ensures.value)
     (λ j w below at. subst (λ z. w ≤ℤ z) to_is
     (c.count_told-to.ensures.below j w below (subst (λ l. slice_get l j ≡ Some w) (sym c.values-values.ensures.values) at)))
-    (subst (λ z. AreFree own.all.now own.term t.machine t.cells t.cell z c.told_of-told.result) v_is c.told_of-told.ensures.told)
+    (subst (λ z. AreFree own.all.now own.term t.machine t.cells t.cell z c.told_of-told.result) v_is c.told_of-told.ensures.answered)
     c.loop-i.invariant.1
 
 pub returns-then-is_some : goal.returns-then-is_some

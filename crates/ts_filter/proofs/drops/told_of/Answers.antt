@@ -13,8 +13,8 @@ tell-requires-clause-value g c =
     (subst (λ k. Contains (values_at k c.hulls.inside.cells.now.present) c.args.v) (sym c.cell.ensures)
     (subst (λ (z : AtCell). Contains (values_at c.args.hulls.now.cell z.cells) c.args.v) (sym c.hulls.view_is) c.requires.value))
 
-pub returns-clause-told : goal.returns-clause-told
-returns-clause-told g c =
+pub returns-clause-answered : goal.returns-clause-answered
+returns-clause-answered g c =
     let t = c.args.hulls.now in let own = c.args.own in let tells = c.requires.spares in
     let b : c.hulls.inside.cells.now.present ≡ t.cells = ap (λ (z : AtCell). z.cells) c.hulls.view_is in
     λ on w there from to. none_of_free g.S.Spares.knows own.all.now own.term t.machine t.cells c.args.spares.now t.cell w tells c.requires.usable

@@ -25,8 +25,8 @@ returns-clause-same c =
     same_after c.self.inside.each.items c.self.view_is c.requires.there c.index_mut-tables.ensures.value c.leave.new.self
     (c.leave.ensures.machine ∙ c.excluded_at-told.ensures.known.machine)
 
-pub returns-clause-told : goal.returns-clause-told
-returns-clause-told c =
+pub returns-clause-answered : goal.returns-clause-answered
+returns-clause-answered c =
     let b = c.args.cells.now.present in
     told_of c.self.inside.each.items c.self.view_is c.requires.there c.index_mut-tables.ensures.value
-    (λ a told. IsTrue told ↔ Excludes c.args.asked (term_span a c.args.p b)) c.excluded_at-told.result c.excluded_at-told.ensures.told
+    (λ a told. IsTrue told ↔ Excludes c.args.asked (term_span a c.args.p b)) c.excluded_at-told.result c.excluded_at-told.ensures.answered

@@ -28,11 +28,11 @@ returns-clause-same c =
     same_after c.self.inside.each.items c.self.view_is c.requires.there c.index_mut-tables.ensures.value c.leave.new.self
     (c.leave.ensures.machine ∙ c.value_excluded_at-told.ensures.known.machine)
 
-pub returns-clause-told : goal.returns-clause-told
-returns-clause-told c =
+pub returns-clause-answered : goal.returns-clause-answered
+returns-clause-answered c =
     let b = c.args.cells.now.present in let k = c.args.k in
     told_of c.self.inside.each.items c.self.view_is c.requires.there c.index_mut-tables.ensures.value
     (λ a told. IsTrue told ↔ Excludes c.args.asked (term_span a k (only k c.args.v b))) c.value_excluded_at-told.result
     (subst
     (λ (v : ℤ). IfOk c.value_excluded_at-told.result (λ told. IsTrue told ↔ Excludes c.args.asked (term_span c.index_mut-tables.result.now.machine k (only k v b))))
-    (to_z-of_z w64 c.args.v c.ranges.v) c.value_excluded_at-told.ensures.told)
+    (to_z-of_z w64 c.args.v c.ranges.v) c.value_excluded_at-told.ensures.answered)

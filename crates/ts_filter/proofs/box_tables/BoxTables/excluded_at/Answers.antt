@@ -17,8 +17,8 @@ hulls_at-requires-clause-hulls c =
     (read_hulls c.args.self.now.machine c.args.cells.now.present c.args.p c.read_at-k.result c.requires.looks c.requires.cell c.requires.usable
     c.read_at-k.ensures)
 
-pub returns-in-None-clause-told : goal.returns-in-None-clause-told
-returns-in-None-clause-told c =
+pub returns-in-None-clause-answered : goal.returns-in-None-clause-answered
+returns-in-None-clause-answered c =
     let b = c.args.cells.now.present in let k = c.read_at-k.result in
     let told = subst (λ (s : Span). (c.showing-value.result ≡ None) ↔ Excludes c.args.asked s)
     (ap (λ (x : AtCell). term_span x.machine x.cell x.cells) c.hulls_at.ensures
@@ -27,8 +27,8 @@ returns-in-None-clause-told c =
     c.showing-value.ensures in
     (λ so. told.0 c.in-None.is, λ none. refl)
 
-pub returns-in_ok-keep_likely-in-Some-clause-told : goal.returns-in_ok-keep_likely-in-Some-clause-told
-returns-in_ok-keep_likely-in-Some-clause-told c =
+pub returns-in_ok-keep_likely-in-Some-clause-answered : goal.returns-in_ok-keep_likely-in-Some-clause-answered
+returns-in_ok-keep_likely-in-Some-clause-answered c =
     let b = c.args.cells.now.present in let k = c.read_at-k.result in
     let told = subst (λ (s : Span). (c.showing-value.result ≡ None) ↔ Excludes c.args.asked s)
     (ap (λ (x : AtCell). term_span x.machine x.cell x.cells) c.hulls_at.ensures

@@ -15,7 +15,7 @@ returns-clause-first c =
     (λ told. IsTrue told → IsFirstCell a (Excludes c.args.asked) b (Some 1))
     (λ told h so. first_by_last a (Excludes c.args.asked) b c.requires.looks c.ends-first.result.0 c.ends-first.result.1 c.ends-first.ensures.first
     c.ends-first.ensures.last c.if-first-eq1.false c.requires.split (h.0 so))
-    c.excluded_at.ensures.told
+    c.excluded_at.ensures.answered
 
 pub returns-clause-none : goal.returns-clause-none
 returns-clause-none c =
@@ -23,4 +23,4 @@ returns-clause-none c =
     IfOk-weaker c.excluded_at.result (λ told. IsTrue told ↔ Excludes c.args.asked (term_span a c.ends-first.result.1 b))
     (λ told. told ≡ false → NoneBefore a (Excludes c.args.asked) b (first_looked a.window))
     (λ told h isnt. none_by_last a (Excludes c.args.asked) b c.requires.looks c.ends-first.result.1 told c.ends-first.ensures.last isnt h)
-    c.excluded_at.ensures.told
+    c.excluded_at.ensures.answered

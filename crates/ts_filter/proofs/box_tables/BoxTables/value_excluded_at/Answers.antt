@@ -19,8 +19,8 @@ hulls_at-requires-clause-hulls c =
     (hulls_inside c.args.self.now.machine c.args.cells.now.present c.args.k c.requires.looks c.requires.cell c.requires.usable
     (sym c.looks_at.ensures ∙ c.if-not-looks_at.false))
 
-pub returns-clause-told : goal.returns-clause-told
-returns-clause-told c =
+pub returns-clause-answered : goal.returns-clause-answered
+returns-clause-answered c =
     let b = c.args.cells.now.present in let k = c.args.k in let v = c.args.v in let h = c.hulls_at.result in
     subst (λ s. IsTrue c.value_excludes.result ↔ Excludes c.args.asked s)
     (ap (value_span h.machine h.cell h.cells) (to_z-of_z w64 v c.ranges.v)
@@ -29,10 +29,10 @@ returns-clause-told c =
     ∙ sym (values_narrowed c.args.self.now.machine b c.requires.looks k c.requires.cell.0 c.requires.cell.1 v))
     c.value_excludes.ensures
 
-pub returns-then-not-looks_at-clause-told : goal.returns-then-not-looks_at-clause-told
-returns-then-not-looks_at-clause-told c =
+pub returns-then-not-looks_at-clause-answered : goal.returns-then-not-looks_at-clause-answered
+returns-then-not-looks_at-clause-answered c =
     let a = c.args.self.now.machine in let b = c.args.cells.now.present in let k = c.args.k in let v = c.args.v in
     subst (λ s. IfOk c.excluded_at.result (λ told. IsTrue told ↔ Excludes c.args.asked s))
     (sym (values_narrowed a b c.requires.looks k c.requires.cell.0 c.requires.cell.1 v
     ∙ value_outside a k b v (sym c.looks_at.ensures ∙ c.if-not-looks_at.true)))
-    c.excluded_at.ensures.told
+    c.excluded_at.ensures.answered

@@ -37,4 +37,4 @@ returns-clause-answered c =
     (told ≡ is_cut_at (contest_of q) (last (search_of q.problem)) b c.args.bar) c.requires.asked.tables
     (objective_long q c.requires.asked.posed c.requires.objective c.args.tables.now.machines c.requires.asked.tables) g
     (λ a there h. cut_told q c.requires.asked.posed c.requires.objective b c.requires.asked.part a there c.args.bar told h))
-    c.cut_at_end.ensures.told
+    c.cut_at_end.ensures.answered

@@ -52,4 +52,4 @@ returns-clause-answered c =
     (tables_long q c.requires.asked.posed c.args.tables.now.machines r.term c.requires.asked.tables (required_there q c.requires.asked.posed c.args.j r is)) g
     (λ a there h. refuted_told q c.requires.asked.posed b c.requires.asked.part c.args.j r a c.requires.from is there c.cells.result told
     c.cells.ensures.count h))
-    c.refuted.ensures.told
+    c.refuted.ensures.answered

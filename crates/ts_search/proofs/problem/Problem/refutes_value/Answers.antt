@@ -42,4 +42,4 @@ returns-clause-answered c =
       | else-is_plain-via-else-is_plain w ↦
           absurd (clash c.is_plain.result ((c.is_plain.ensures a (ap (λ l. slice_get l r.term) c.requires.asked.tables ∙ there)).1 none) w.if-is_plain.false)
     ]) h))
-    c.refuted_value.ensures.told
+    c.refuted_value.ensures.answered
