@@ -53,7 +53,8 @@ module _ (n s k r : ℕ) (old : List (List (PackedHull n))) (column : List (Pack
   move_taken t on m big leads counted moved u j lt less = go (nat_eq m.next u) refl
     where
       x : Hull
-      x = gives m on.letter on.twin (count_in t.values.now) (value_in t.values.now) (hull_at (lanes_of n) (nothing n) t.before.now) (value_in t.next_values.now j)
+      x = gives m on.letter on.twin (count_in t.values.now) (value_in t.values.now) (hull_at (lanes_of n) (nothing n) t.before.now)
+          (value_in t.next_values.now j)
 
       go : (b : Bool) → nat_eq m.next u ≡ b → hull_in n new u j ≡ hull_of_both (hull_in n old u j) (seen_hull (sides n) (cond (nat_eq m.next u) x none))
       go true e =
