@@ -3,9 +3,9 @@
 ghost use Rattle.std.specs.Prelude.{◌≡◌, neg_ℤ};
 ghost use Rattle.ts_base.specs.Limits.{IsCellValue};
 
-use crate::sums::Sums;
+use crate::sums::{Near, Sums};
 use ts_automaton::{Op, Operator};
-use ts_sweep::operator::Lesser;
+use ts_sweep::operator::{Greater, Lesser, Operator as OnEnds, Plus};
 use ts_sweep::packed::Ends;
 
 /// An operator that folds cells with the sums `S`.
@@ -47,6 +47,38 @@ impl<S: Sums> Folding<S> for Op {
             Op::Add => S::joined(Operator::Fold(Op::Add), both, S::number(opposite(worth))),
             Op::Max | Op::Min => both,
         }
+    }
+}
+
+impl Folding<Near> for Plus {
+    ghost use Rattle.ts_base.specs.declared.op.Op.TheVariants.{Add};
+
+    ghost fold = { λ k. Add };
+
+    #[inline(always)]
+    fn folded(self, first: Ends, second: Ends) -> Ends {
+        self.of(first, second)
+    }
+
+    #[inline(always)]
+    fn once(self, both: Ends, worth: i64) -> Ends {
+        Near::joined(Operator::Fold(Op::Add), both, Near::number(opposite(worth)))
+    }
+}
+
+impl Folding<Near> for Greater {
+    ghost use Rattle.ts_base.specs.declared.op.Op.TheVariants.{Max};
+
+    ghost fold = { λ k. Max };
+
+    #[inline(always)]
+    fn folded(self, first: Ends, second: Ends) -> Ends {
+        self.of(first, second)
+    }
+
+    #[inline(always)]
+    fn once(self, both: Ends, worth: i64) -> Ends {
+        both
     }
 }
 

@@ -6,7 +6,17 @@ ghost use Rattle.ts_base.specs.declared.ext.Ext.TheVariants.{Int};
 ghost use Rattle.ts_base.specs.declared.op.Op.TheVariants.{Max, Min};
 ghost use Rattle.ts_base.specs.Limits.{IsCellValue};
 ghost use Rattle.ts_glue.specs.declared.operand.Part.TheVariants.{Whole, Away};
-ghost use Rattle.ts_glue.specs.Glue.{GlueTakes, apart, fold_of, folded_between, folded_both, glue_in, held_of, result_of};
+ghost use Rattle.ts_glue.specs.Glue.{
+  GlueTakes,
+  apart,
+  fold_of,
+  folded_between,
+  folded_both,
+  glue_in,
+  held_of,
+  join_of,
+  result_of,
+};
 ghost use Rattle.ts_hull.specs.Sealed.{sealed_spans};
 ghost use Rattle.ts_meet.specs.Joints.{
   IsFoldPlain,
@@ -25,6 +35,7 @@ ghost use Rattle.ts_meet.specs.Peaks.{ArePlainHeld, IsHeldBy, IsKnown, IsSmall, 
 ghost use Rattle.ts_meet.specs.Sides.{
   AreSomeEnds,
   IsInfinity,
+  TakesNear,
   TakesPlain,
   ends_in,
   plain_values,
@@ -43,9 +54,9 @@ use crate::part::{OfAway, OfWhole, Registers};
 use crate::peaks::Peaks;
 use crate::side::{Side, are_plain, is_open_plain, shown};
 use crate::small::is_held_by;
-use crate::sums::{Clamped, Near, Plain, Sums, is_infinity, is_neutral};
+use crate::sums::{Clamped, Near, Plain, Sums, is_infinity, is_neutral, less_near};
 use ts_automaton::{Op, Operator};
-use ts_sweep::operator::Lesser;
+use ts_sweep::operator::{Greater, Lesser, Operator as OnEnds, Plus};
 use ts_sweep::packed::{Ends, PackedHull};
 
 /// How the registers of a pair of states are glued: the operators that join results and fold cells, what the cell is
@@ -306,14 +317,18 @@ impl Gluing {
         }
     }
 
-    /// The glued ends of two hulls before the mark, where one occurrence goes on and all numbers that are added or
-    /// taken away are small.
+    /// The glued ends of two hulls before the mark, where one occurrence goes on, which `k` folds, and all numbers that
+    /// are added or taken away are small.
     #[inline(always)]
-    pub(crate) fn near_joined<const N: usize>(
-        self,
-        left: &PackedHull<N>,
-        right: &PackedHull<N>,
-    ) -> Ends
+    pub(crate) fn near_joined<
+        K: Folding<Near>,
+        const WIDE: bool,
+        const TRIMS: bool,
+        const N: usize,
+    >(self, k: K, left: &PackedHull<N>, right: &PackedHull<N>) -> Ends
+        requires fold { K.fold k ≡ self.fold }
+        requires wide { WIDE ≡ self.wide }
+        requires trims { TRIMS ≡ self.trims }
         requires registers { 6 ≤ lane_count N }
         requires left { AreSome (lane_count N) (lanes_of N left.now) }
         requires right { AreSome (lane_count N) (lanes_of N right.now) }
@@ -325,7 +340,31 @@ impl Gluing {
             (pointed_spans (sides N) (spans_of (unpacked (lanes_of N left.now))))
             (pointed_spans (sides N) (spans_of (unpacked (lanes_of N right.now)))) (joined_expression self)) }
     {
-        self.joined_by::<Near>(Side::of(left), Side::of(right))
+        self.joined_near::<K, WIDE, TRIMS>(k, Side::of(left), Side::of(right))
+    }
+
+    /// The glued ends before the mark, where one occurrence goes on, which `k` folds, between small numbers. The
+    /// operator that joins results is looked up once, so that this is short enough to lie in a loop over values.
+    #[inline(always)]
+    fn joined_near<K: Folding<Near>, const WIDE: bool, const TRIMS: bool>(
+        self,
+        k: K,
+        left: Side,
+        right: Side,
+    ) -> Ends
+        requires trims { TRIMS ≡ self.trims }
+        requires fits { GlueTakes TakesNear plain_values (ends_in left) (ends_in right)
+            (join_of self.result (fold_of WIDE (K.fold k) (part_by self))) }
+        requires worth { IsCellValue self.worth }
+        ensures { result ≡ glue_in plain_values (ends_in left) (ends_in right)
+            (join_of self.result (fold_of WIDE (K.fold k) (part_by self))) }
+    {
+        let folded = self.folded_near::<K, WIDE, TRIMS>(k, left, right);
+        match self.result {
+            Op::Add => Plus.of(Plus.of(left.r, right.r), folded),
+            Op::Max => Greater.of(Greater.of(left.r, right.r), folded),
+            Op::Min => Lesser.of(Lesser.of(left.r, right.r), folded),
+        }
     }
 
     /// The glued ends before the mark, where one occurrence goes on, with the sums `S`.
@@ -341,6 +380,52 @@ impl Gluing {
             S::joined(join, left.r, right.r),
             self.folded::<S>(left, right),
         )
+    }
+
+    /// The fold of the occurrence that goes on, between small numbers.
+    #[inline(always)]
+    fn folded_near<K: Folding<Near>, const WIDE: bool, const TRIMS: bool>(
+        self,
+        k: K,
+        left: Side,
+        right: Side,
+    ) -> Ends
+        requires trims { TRIMS ≡ self.trims }
+        requires fits { GlueTakes TakesNear plain_values (ends_in left) (ends_in right)
+            (fold_of WIDE (K.fold k) (part_by self)) }
+        requires worth { IsCellValue self.worth }
+        ensures { result ≡ glue_in plain_values (ends_in left) (ends_in right)
+            (fold_of WIDE (K.fold k) (part_by self)) }
+    {
+        if WIDE {
+            less_near(
+                self.part_near::<OfWhole, K, TRIMS>(k, left, right),
+                self.part_near::<OfAway, Lesser, TRIMS>(Lesser, left, right),
+            )
+        } else {
+            self.part_near::<OfWhole, K, TRIMS>(k, left, right)
+        }
+    }
+
+    /// A part of the occurrence that goes on, folded by an operator between small numbers.
+    #[inline(always)]
+    fn part_near<P: Registers, K: Folding<Near>, const TRIMS: bool>(
+        self,
+        k: K,
+        left: Side,
+        right: Side,
+    ) -> Ends
+        requires trims { TRIMS ≡ self.trims }
+        requires fits { GlueTakes TakesNear plain_values (ends_in left) (ends_in right)
+            (part_by self (K.fold k) P.part) }
+        requires worth { IsCellValue self.worth }
+        ensures { result ≡ glue_in plain_values (ends_in left) (ends_in right) (part_by self (K.fold k) P.part) }
+    {
+        if TRIMS {
+            self.folded_between::<Near, P, K>(k, left, right)
+        } else {
+            self.folded_both::<Near, P, K>(k, left, right)
+        }
     }
 
     /// The answers of both runs joined, before the mark.

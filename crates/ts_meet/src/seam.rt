@@ -12,9 +12,10 @@ ghost use Rattle.ts_row.specs.Rows.{lanes_of};
 ghost use Rattle.ts_sweep.specs.Packed.{AreSome, IsPackOf, unpacked};
 ghost use Rattle.ts_sweep.specs.Sides.{BothEnds, lane_count, seen, sides};
 
-use crate::fold::numbered;
+use crate::fold::{GREATEST, SUM, numbered};
 use crate::gluing::Gluing;
 use crate::side::shown;
+use ts_sweep::operator::{Greater, Lesser, Plus};
 use ts_sweep::packed::{Ends, PackedHull};
 
 /// A way to glue two hulls of N lanes.
@@ -133,7 +134,13 @@ impl<const O: u8, const F: u8, const WIDE: bool, const TRIMS: bool, const N: usi
     #[inline(always)]
     fn pointed(self, gluing: Gluing, left: &PackedHull<N>, right: &PackedHull<N>) -> Ends {
         let known = gluing.known(numbered(O), numbered(F), WIDE, TRIMS);
-        known.near_joined(left, right)
+        if F == SUM {
+            known.near_joined::<Plus, WIDE, TRIMS, N>(Plus, left, right)
+        } else if F == GREATEST {
+            known.near_joined::<Greater, WIDE, TRIMS, N>(Greater, left, right)
+        } else {
+            known.near_joined::<Lesser, WIDE, TRIMS, N>(Lesser, left, right)
+        }
     }
 }
 

@@ -112,7 +112,7 @@ fn less(first: Ends, second: Ends) -> Ends
 
 /// The first less the second, both small numbers.
 #[inline(always)]
-fn less_near(first: Ends, second: Ends) -> Ends
+pub(crate) fn less_near(first: Ends, second: Ends) -> Ends
     requires { TakesNear Sub first second }
     ensures { result ≡ plain_by Sub first second }
 {
