@@ -1,44 +1,57 @@
--- How far out the ends of the registers of many hulls lie, or that they are small.
-use Rattle.std.specs.Prelude.{◌≡◌, ◌<◌, ◌+◌, ◌≤ℤ◌, ℕ, ℤ, Bool, true, false, List, get_or}
+-- How far out the ends of the registers of many hulls lie.
+use Rattle.std.specs.Prelude.{◌≡◌, ◌<◌, ◌+◌, ◌<ℤ◌, ◌≤ℤ◌, ℕ, ℤ, pos, negsuc, Bool, true, false, List, get_or}
 use Rattle.ts_base.specs.declared.op.Op.{Op}
-use Rattle.ts_base.specs.declared.op.Op.TheVariants.{Max, Min}
+use Rattle.ts_base.specs.declared.op.Op.TheVariants.{Add, Max, Min}
 use Rattle.ts_automaton.specs.Registers.{EachOf, each}
 use Rattle.ts_row.specs.Rows.{lanes_of, nothing}
 use Rattle.ts_sweep.specs.declared.packed.Ends.{Ends}
 use Rattle.ts_sweep.specs.declared.packed.PackedHull.{PackedHull}
 use Rattle.ts_sweep.specs.Fronts.{ArePlain}
 use Rattle.ts_sweep.specs.Lanes.{some_lanes}
-use Rattle.ts_sweep.specs.Packed.{ends}
+use Rattle.ts_sweep.specs.Packed.{ends, max_ends}
 use Rattle.ts_sweep.specs.Sides.{sides}
 use Rattle.ts_meet.specs.declared.gluing.Gluing.{Gluing}
-use Rattle.ts_meet.specs.declared.peaks.Peaks.{Peaks}
 use Rattle.ts_meet.specs.declared.column.Watched.{Watched}
-use Rattle.ts_meet.specs.declared.column.Watched.TheVariants.{Nothing, Narrow, Wide}
-use Rattle.ts_meet.specs.Joints.{IsHeldPlain, IsOpenPlain, IsPlain, is_add}
-use Rattle.ts_meet.specs.Sides.{IsNeutral, side_of}
+use Rattle.ts_meet.specs.Joints.{IsHeldPlain, IsPlain, is_add}
+use Rattle.ts_meet.specs.Sides.{IsNeutral, ends_in, side_of}
 
--- what is known of a column that isn't there
+-- what stands for a column that isn't there
+abbrev pub zeros : Ends
+zeros = ends (pos 0) (pos 0)
+
 abbrev pub unwatched : Watched
-unwatched = Nothing
+unwatched = record { peaks = record { c = zeros; e = zeros; d = zeros; f = zeros; r = zeros } }
 
--- narrow registers with these ends
-abbrev pub sides_of_peaks : Peaks → EachOf Ends
-sides_of_peaks k = each (ends k.c k.c) (ends k.c k.c) k.d k.d (ends k.r k.r)
+-- the greater of each end of each register
+abbrev pub higher : EachOf Ends → EachOf Ends → EachOf Ends
+higher a b = each (max_ends a.c b.c) (max_ends a.e b.e) (max_ends a.d b.d) (max_ends a.f b.f) (max_ends a.r b.r)
 
--- both ends are at most a number
-abbrev pub IsBelow : Ends → ℤ → Type 0
-IsBelow e top = (e.below ≤ℤ top) × (e.above ≤ℤ top)
+-- a number is at most a peak, if that isn't the greatest number, of which nothing is known
+abbrev pub IsAtMost : ℤ → ℤ → Type 0
+IsAtMost x peak = peak <ℤ pos 9223372036854775807 → x ≤ℤ peak
 
 -- each end is at most that of others
 abbrev pub AreBelow : Ends → Ends → Type 0
-AreBelow e top = (e.below ≤ℤ top.below) × (e.above ≤ℤ top.above)
+AreBelow e peak = IsAtMost e.below peak.below × IsAtMost e.above peak.above
 
-abbrev pub IsUnder : Peaks → EachOf Ends → Type 0
-IsUnder k a = IsBelow a.c k.c × AreBelow a.d k.d × IsBelow a.r k.r
+-- no end lies nearer than the infinity that an operator passes over
+abbrev pub IsUnheld : Op → Ends → Type 0
+IsUnheld Add peak = ⊥
+IsUnheld Max peak = peak.above ≤ℤ negsuc 9223372036854775806
+IsUnheld Min peak = peak.below ≤ℤ negsuc 9223372036854775806
 
--- what is taken away is small, and cells that may still come leave the greatest and the least small
-abbrev pub AreRestSmall : EachOf Ends → Type 0
-AreRestSmall a = ArePlain a.e × IsOpenPlain Max a.d × IsOpenPlain Min a.f
+abbrev pub IsUnheldWith : Ends → Ends → Type 0
+IsUnheldWith peak c = (o : Op) → IsUnheld o peak → IsNeutral o c
+
+-- each end of registers is at most the peak; where no C lies nearer than an infinity, it is that infinity
+abbrev pub IsUnder : EachOf Ends → EachOf Ends → Type 0
+IsUnder k a =
+    AreBelow a.c k.c × AreBelow a.e k.e × AreBelow a.d k.d × AreBelow a.f k.f × AreBelow a.r k.r
+    × IsUnheldWith k.c a.c
+
+-- what is known of a column holds of registers
+abbrev pub IsKnown : Watched → EachOf Ends → Type 0
+IsKnown k a = IsUnder (ends_in k.peaks) a
 
 -- where C is held it is small, if something is taken away from it as in wide automata; where it isn't, it is the
 -- infinity that the operator on results passes over
@@ -56,16 +69,6 @@ abbrev pub ArePlainHeld : (here there : Bool) → Gluing → EachOf Ends → Eac
 ArePlainHeld here there g a b =
     IsPlain g a b × IsHeldBy g.wide g.result here a.c × IsHeldBy g.wide g.result there b.c
 
--- wide registers are small, but for C where it isn't held, and for R where results aren't added
-abbrev pub IsSmall : Op → Bool → EachOf Ends → Type 0
-IsSmall o held a = AreRestSmall a × IsHeldBy true o held a.c × (is_add o ≡ true → ArePlain a.r)
-
--- what is known of a column holds of registers whose results an operator joins
-abbrev pub IsKnown : Op → Watched → EachOf Ends → Type 0
-IsKnown o Nothing a = Unit {0}
-IsKnown o (Narrow k) a = IsUnder k a
-IsKnown o (Wide held) a = IsSmall o held a
-
 -- something holds of the registers of a hull, if they lie in it; and of those of the hulls at `count` places from
 -- `from` on
 abbrev pub HoldsInHull : (n : ℕ) → (EachOf Ends → Type 0) → PackedHull n → Type 0
@@ -75,14 +78,8 @@ abbrev pub HoldsInHulls : (n : ℕ) → (EachOf Ends → Type 0) → List (Packe
 HoldsInHulls n Holds hulls from count =
     (i : ℕ) → i < count → HoldsInHull n Holds (get_or hulls (from + i) (nothing n))
 
-abbrev pub AreAllUnder : (n : ℕ) → Peaks → List (PackedHull n) → (from count : ℕ) → Type 0
-AreAllUnder n k = HoldsInHulls n (IsUnder k)
-
-abbrev pub AreAllSmall : (n : ℕ) → Op → Bool → List (PackedHull n) → (from count : ℕ) → Type 0
-AreAllSmall n o held = HoldsInHulls n (IsSmall o held)
-
-abbrev pub AreWatched : (n : ℕ) → Op → Watched → List (PackedHull n) → (from count : ℕ) → Type 0
-AreWatched n o k = HoldsInHulls n (IsKnown o k)
+abbrev pub AreWatched : (n : ℕ) → Watched → List (PackedHull n) → (from count : ℕ) → Type 0
+AreWatched n k = HoldsInHulls n (IsKnown k)
 
 -- a way to glue takes two hulls, if registers lie in both; and those at `count` places from `from` on of two columns
 abbrev pub IsTaken : (n : ℕ) → (EachOf Ends → EachOf Ends → Type 0) → (left right : PackedHull n) → Type 0

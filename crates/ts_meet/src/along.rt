@@ -106,7 +106,7 @@ fn along_by<const O: u8, const N: usize>(
     ensures { (p : Pair) → AreJoints p joints.now →
         IsHullUntil enough (glued_along N p left.now right.now from values.now cells) result }
 {
-    let seconds = watched_in::<O, N>(joints, joints.right_states, right, from, values.len());
+    let seconds = watched_in(joints, joints.right_states, right, from, values.len());
     let mut hull = nothing();
     for q in 0..joints.left_states {
         let column = left.column(q);
@@ -141,7 +141,7 @@ fn with_columns<const O: u8, const N: usize>(
     requires left { ArePlaces N (from + length values.now) left.now }
     requires right { HavePlaces N joints.now.right_states (from + length values.now) right.now }
     requires seconds { (r : ℕ) → r < joints.now.right_states →
-        AreWatched N (numbered O) (get_or seconds.now r unwatched) (get_or right.now r []) from (length values.now) }
+        AreWatched N (get_or seconds.now r unwatched) (get_or right.now r []) from (length values.now) }
     requires values { AreCellValues values.now }
     ensures { (p : Pair) (so_far : ℕ → Span) → AreJoints p joints.now →
         StandFor hull (hull_over so_far (length values.now)) → IsHullUntil enough (hull_over
@@ -149,7 +149,7 @@ fn with_columns<const O: u8, const N: usize>(
         (length values.now)) result }
 {
     let needed = joints.watches_left(q);
-    let first = Watched::over::<O, N>(needed, joints.wide, left, from, values.len());
+    let first = Watched::over(needed, joints.wide, left, from, values.len());
     let mut all = hull;
     for r in 0..joints.right_states {
         let second = seconds[r as usize];
@@ -186,8 +186,8 @@ fn along_pair<const O: u8, const N: usize>(
     requires other { r < joints.now.right_states }
     requires left { ArePlaces N (from + length values.now) left.now }
     requires right { ArePlaces N (from + length values.now) right.now }
-    requires first { AreWatched N (numbered O) first left.now from (length values.now) }
-    requires second { AreWatched N (numbered O) second right.now from (length values.now) }
+    requires first { AreWatched N first left.now from (length values.now) }
+    requires second { AreWatched N second right.now from (length values.now) }
     requires values { AreCellValues values.now }
     ensures { (p : Pair) → AreJoints p joints.now → StandFor result
         (pair_along N p q r left.now right.now from values.now cells (length values.now)) }
@@ -217,8 +217,8 @@ fn along_apart<const O: u8, const N: usize>(
     requires operator { numbered O ≡ joints.now.result }
     requires left { ArePlaces N (from + length values.now) left.now }
     requires right { ArePlaces N (from + length values.now) right.now }
-    requires first { AreWatched N (numbered O) first left.now from (length values.now) }
-    requires second { AreWatched N (numbered O) second right.now from (length values.now) }
+    requires first { AreWatched N first left.now from (length values.now) }
+    requires second { AreWatched N second right.now from (length values.now) }
     requires values { AreCellValues values.now }
     ensures { (p : Pair) (q r : ℕ) → AreJoints p joints.now → is_join p.table q r ≡ false → StandFor result
         (pair_along N p q r left.now right.now from values.now cells (length values.now)) }
@@ -248,8 +248,8 @@ fn along_width<const O: u8, const WIDE: bool, const N: usize>(
     requires width { joints.now.wide ≡ WIDE }
     requires left { ArePlaces N (from + length values.now) left.now }
     requires right { ArePlaces N (from + length values.now) right.now }
-    requires first { AreWatched N (numbered O) first left.now from (length values.now) }
-    requires second { AreWatched N (numbered O) second right.now from (length values.now) }
+    requires first { AreWatched N first left.now from (length values.now) }
+    requires second { AreWatched N second right.now from (length values.now) }
     requires values { AreCellValues values.now }
     ensures { (p : Pair) (q r : ℕ) → AreJoints p joints.now → is_join p.table q r ≡ false → StandFor result
         (pair_along N p q r left.now right.now from values.now cells (length values.now)) }
@@ -333,8 +333,8 @@ fn along_joined<const O: u8, const N: usize>(
     requires other { r < joints.now.right_states }
     requires left { ArePlaces N (from + length values.now) left.now }
     requires right { ArePlaces N (from + length values.now) right.now }
-    requires first { AreWatched N (numbered O) first left.now from (length values.now) }
-    requires second { AreWatched N (numbered O) second right.now from (length values.now) }
+    requires first { AreWatched N first left.now from (length values.now) }
+    requires second { AreWatched N second right.now from (length values.now) }
     requires values { AreCellValues values.now }
     ensures { (p : Pair) → AreJoints p joints.now → is_join p.table q r ≡ true → StandFor result
         (pair_along N p q r left.now right.now from values.now cells (length values.now)) }
@@ -383,8 +383,8 @@ fn along_folded<const O: u8, const F: u8, const WIDE: bool, const N: usize>(
     requires other { r < joints.now.right_states }
     requires left { ArePlaces N (from + length values.now) left.now }
     requires right { ArePlaces N (from + length values.now) right.now }
-    requires first { AreWatched N (numbered O) first left.now from (length values.now) }
-    requires second { AreWatched N (numbered O) second right.now from (length values.now) }
+    requires first { AreWatched N first left.now from (length values.now) }
+    requires second { AreWatched N second right.now from (length values.now) }
     requires values { AreCellValues values.now }
     ensures { (p : Pair) → AreJoints p joints.now → is_join p.table q r ≡ true → StandFor result
         (pair_along N p q r left.now right.now from values.now cells (length values.now)) }

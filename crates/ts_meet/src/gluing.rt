@@ -3,7 +3,7 @@
 ghost use Rattle.std.specs.Prelude.{◌≡◌, ◌⊎◌, ◌≤◌, Bool, true, false, pos};
 ghost use Rattle.ts_automaton.specs.Registers.{EachOf, Takes, spans_of, value_in};
 ghost use Rattle.ts_base.specs.declared.ext.Ext.TheVariants.{Int};
-ghost use Rattle.ts_base.specs.declared.op.Op.TheVariants.{Max, Min};
+ghost use Rattle.ts_base.specs.declared.op.Op.TheVariants.{Min};
 ghost use Rattle.ts_base.specs.Limits.{IsCellValue};
 ghost use Rattle.ts_glue.specs.declared.operand.Part.TheVariants.{Whole, Away};
 ghost use Rattle.ts_glue.specs.Glue.{
@@ -31,7 +31,7 @@ ghost use Rattle.ts_meet.specs.Joints.{
   told_joined,
   with_worth,
 };
-ghost use Rattle.ts_meet.specs.Peaks.{ArePlainHeld, IsHeldBy, IsKnown, IsSmall, IsUnder};
+ghost use Rattle.ts_meet.specs.Peaks.{ArePlainHeld, IsHeldBy, IsKnown};
 ghost use Rattle.ts_meet.specs.Sides.{
   AreSomeEnds,
   IsInfinity,
@@ -51,9 +51,7 @@ ghost use Rattle.ts_sweep.specs.Sides.{BothEnds, lane_count, seen, sides};
 use crate::column::Watched;
 use crate::folding::Folding;
 use crate::part::{OfAway, OfWhole, Registers};
-use crate::peaks::Peaks;
 use crate::side::{Side, are_plain, is_open_plain, shown};
-use crate::small::is_held_by;
 use crate::sums::{Clamped, Near, Plain, Sums, is_infinity, is_neutral, less_near};
 use ts_automaton::{Op, Operator};
 use ts_sweep::operator::{Greater, Lesser, Operator as OnEnds, Plus};
@@ -557,24 +555,9 @@ impl Gluing {
     /// occurrence goes on.
     pub(crate) fn is_plain_within(self, left: Watched, right: Watched) -> bool
         requires { self.joins ≡ true }
-        ensures { (a b : EachOf Ends) → result ≡ true →
-            IsKnown self.result left a → IsKnown self.result right b → IsPlain self a b }
+        ensures { (a b : EachOf Ends) → result ≡ true → IsKnown left a → IsKnown right b → IsPlain self a b }
     {
-        match (left, right) {
-            (Watched::Narrow(first), Watched::Narrow(second)) => !self.wide
-                && self.is_plain_under(first, second),
-            (Watched::Wide(here), Watched::Wide(there)) => self.wide
-                && self.is_spread_small(here, there),
-            _ => self.adds_nothing(),
-        }
-    }
-
-    /// Whether nothing is added or taken away.
-    #[inline(always)]
-    fn adds_nothing(self) -> bool
-        ensures { (a b : EachOf Ends) → result ≡ true → IsPlain self a b }
-    {
-        !self.adds_any()
+        self.is_joined_plain(left.peaks, right.peaks)
     }
 
     /// Whether something is added to what is folded, or taken away from it.
@@ -583,29 +566,6 @@ impl Gluing {
         ensures { result ≡ adds_any self }
     {
         self.wide | (is_add(self.result) | is_add(self.fold))
-    }
-
-    /// Whether all numbers that are added are small between hulls of narrow automata whose ends lie within these, where
-    /// one occurrence goes on.
-    fn is_plain_under(self, left: Peaks, right: Peaks) -> bool
-        requires joined { self.joins ≡ true }
-        requires narrow { self.wide ≡ false }
-        ensures { (a b : EachOf Ends) → result ≡ true → IsUnder left a → IsUnder right b → IsPlain self a b }
-    {
-        self.is_joined_plain(left.side(), right.side())
-    }
-
-    /// Whether the greatest is folded between small hulls of wide automata where one occurrence goes on, and C is held
-    /// on each side on which it is folded: then all numbers that are added or taken away are small.
-    fn is_spread_small(self, here: bool, there: bool) -> bool
-        requires joined { self.joins ≡ true }
-        requires wide { self.wide ≡ true }
-        ensures { (a b : EachOf Ends) → result ≡ true →
-            IsSmall self.result here a → IsSmall self.result there b → IsPlain self a b }
-    {
-        is_greatest(self.fold)
-            && (!folds_held(self.trims, self.held_left) || here)
-            && (!folds_held(self.trims, self.held_right) || there)
     }
 
     /// Whether all numbers that are added or taken away are small, where no occurrence goes on.
@@ -795,6 +755,18 @@ fn is_side_held(operator: Op, held: bool, side: Side) -> bool
     is_held_by(operator, held, side.c) && are_plain(side.e)
 }
 
+/// Whether C is small where it is held, and otherwise the infinity that the operator on results passes over.
+#[inline(always)]
+fn is_held_by(operator: Op, held: bool, c: Ends) -> bool
+    ensures { (wide : Bool) → result ≡ true → IsHeldBy wide operator held c }
+{
+    if held {
+        are_plain(c)
+    } else {
+        is_neutral(operator, c)
+    }
+}
+
 /// Whether an operator adds.
 #[inline(always)]
 pub(crate) fn is_add(op: Op) -> bool
@@ -803,17 +775,6 @@ pub(crate) fn is_add(op: Op) -> bool
     match op {
         Op::Add => true,
         Op::Max | Op::Min => false,
-    }
-}
-
-/// Whether an operator is the greatest.
-#[inline(always)]
-pub(crate) fn is_greatest(op: Op) -> bool
-    ensures { result ≡ true → op ≡ Max }
-{
-    match op {
-        Op::Max => true,
-        Op::Add | Op::Min => false,
     }
 }
 

@@ -30,11 +30,9 @@ mod marked;
 mod meets;
 mod needed;
 mod part;
-mod peaks;
 mod seam;
 mod settled;
 mod side;
-mod small;
 mod spot;
 mod sums;
 

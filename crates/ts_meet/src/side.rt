@@ -6,7 +6,7 @@ ghost use Rattle.ts_meet.specs.Sides.{ends_in, pointed_ends, shown_ends, side_of
 ghost use Rattle.ts_row.specs.Rows.{lanes_of};
 ghost use Rattle.ts_sweep.specs.Fronts.{ArePlain};
 ghost use Rattle.ts_sweep.specs.Lanes.{least};
-ghost use Rattle.ts_sweep.specs.Packed.{AreSome, ends, name_ends};
+ghost use Rattle.ts_sweep.specs.Packed.{AreSome, name_ends};
 ghost use Rattle.ts_sweep.specs.Sides.{lane_count, sides};
 
 use ts_automaton::Op;
@@ -33,6 +33,15 @@ impl Side {
         requires some { AreSome (lane_count N) (lanes_of N h.now) }
         ensures { ends_in result ≡ side_of (sides N) (lanes_of N h.now) }
     {
+        Side::of_lanes(h)
+    }
+
+    /// The ends of the registers in a packed hull, if registers lie in it. If none do, each lane stays as it is.
+    #[inline(always)]
+    pub(crate) fn of_lanes<const N: usize>(h: &PackedHull<N>) -> Side
+        requires { 6 ≤ lane_count N }
+        ensures { AreSome (lane_count N) (lanes_of N h.now) → ends_in result ≡ side_of (sides N) (lanes_of N h.now) }
+    {
         Side {
             c: register_of(h, Name::C),
             e: register_of(h, Name::E),
@@ -46,9 +55,9 @@ impl Side {
 /// The ends of a register in a packed hull. An end that the hull doesn't have is read as the one that it has.
 #[inline(always)]
 fn register_of<const N: usize>(h: &PackedHull<N>, register: Name) -> Ends
-    requires registers { 6 ≤ lane_count N }
-    requires some { AreSome (lane_count N) (lanes_of N h.now) }
-    ensures { result ≡ pointed_ends (sides N) (name_ends (lanes_of N h.now) register) }
+    requires { 6 ≤ lane_count N }
+    ensures { AreSome (lane_count N) (lanes_of N h.now) →
+        result ≡ pointed_ends (sides N) (name_ends (lanes_of N h.now) register) }
 {
     pointed::<N>(h.ends(register))
 }
@@ -56,9 +65,7 @@ fn register_of<const N: usize>(h: &PackedHull<N>, register: Name) -> Ends
 /// The ends of a single number or infinity, from the one that a hull of N lanes has; where it has both, all of them.
 #[inline(always)]
 fn pointed<const N: usize>(e: Ends) -> Ends
-    requires below { least <ℤ e.below }
-    requires above { least <ℤ e.above }
-    ensures { result ≡ pointed_ends (sides N) e }
+    ensures { least <ℤ e.below → least <ℤ e.above → result ≡ pointed_ends (sides N) e }
 {
     if N == UPPER {
         Ends {
@@ -75,13 +82,12 @@ fn pointed<const N: usize>(e: Ends) -> Ends
     }
 }
 
-/// An end in the lane of the other end.
+/// An end in the lane of the other end. The least number, which is nothing, stays.
 #[inline(always)]
 fn turned(x: i64) -> i64
-    requires { least <ℤ x }
-    ensures { result ≡ turned x }
+    ensures { least <ℤ x → result ≡ turned x }
 {
-    -x
+    if x == i64::MIN { x } else { -x }
 }
 
 /// Ends where one that a hull of N lanes doesn't have is infinite again.
@@ -112,12 +118,12 @@ pub(crate) fn are_plain(e: Ends) -> bool
     e.below.max(e.above) <= PLAIN
 }
 
-/// Whether a number that no end is above is small, where it has to be.
+/// Whether no end is above 10^16, where that is needed.
 #[inline(always)]
-pub(crate) fn is_small_where(needed: bool, top: i64) -> bool
-    ensures { result ≡ true → needed ≡ true → ArePlain (ends top top) }
+pub(crate) fn are_plain_where(needed: bool, e: Ends) -> bool
+    ensures { result ≡ true → needed ≡ true → ArePlain e }
 {
-    !needed || top <= PLAIN
+    !needed || are_plain(e)
 }
 
 /// Whether cells that may be none leave a fold with a small number small: the upper end decides on the greatest, the

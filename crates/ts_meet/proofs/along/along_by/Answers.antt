@@ -2,7 +2,6 @@ use Rattle.std.proofs.Common.{◌≡◌, ◌+◌, ◌<◌, ◌≤◌, ℕ, [], g
 use Rattle.std.specs.Prelude.{None}
 use Rattle.ts_meet.specs.Along.{between_along, hull_over, with_along}
 use Rattle.ts_meet.specs.Asked.{IsHullUntil}
-use Rattle.ts_meet.specs.Joints.{numbered}
 use Rattle.ts_meet.specs.Peaks.{AreWatched, unwatched}
 use Rattle.ts_meet.specs.Settled.{ArePlaces}
 use Rattle.ts_meet.specs.Sides.{StandFor}
@@ -21,7 +20,7 @@ with_columns-requires g c =
     let below : c.loop-q.q < c.args.joints.now.left_states = omega (arith, c.loop-q-test.true, c.loop-q.auto.q-end) in
     let places = subst (ArePlaces g.row.N (c.args.from + length c.args.values.now)) (sym c.column-column.ensures) (c.requires.left.places c.loop-q.q below) in
     let given = c.requires in
-    let seconds : (r : ℕ) → r < c.args.joints.now.right_states → AreWatched g.row.N (numbered g.row.O)
+    let seconds : (r : ℕ) → r < c.args.joints.now.right_states → AreWatched g.row.N
     (get_or c.watched_in-seconds.result r unwatched) (get_or c.args.right.now r []) c.args.from (length c.args.values.now) =
     λ r l. c.watched_in-seconds.ensures r l in
     (search rules, (search rules, (given.registers, (given.alone, (given.operator, (below, (places, (given.right, (seconds, given.values)))))))))

@@ -1,7 +1,6 @@
 use Rattle.std.proofs.Common.{◌≡◌, ◌+◌, ◌<◌, ◌≤◌, get_or, length, sym, ap, subst, ◌∙◌, arith, rules}
 use Rattle.ts_base.specs.Spans.{span_hull}
 use Rattle.ts_meet.specs.Along.{hull_over, pair_along, with_along}
-use Rattle.ts_meet.specs.Joints.{numbered}
 use Rattle.ts_meet.specs.Peaks.{AreWatched, unwatched}
 use Rattle.ts_meet.specs.Settled.{ArePlaces}
 use Rattle.ts_meet.specs.Sides.{StandFor}
@@ -20,10 +19,10 @@ along_pair-pair-requires g c =
     let below : c.loop-r.r < c.args.joints.now.right_states = omega (arith, c.loop-r-test.true, c.loop-r.auto.r-end) in
     let places = subst (ArePlaces g.row.N (c.args.from + length c.args.values.now)) (sym c.column-column.ensures) (c.requires.right.places c.loop-r.r below) in
     let has = c.requires in
-    let n = g.row.N in let o = numbered g.row.O in let from = c.args.from in let count = length c.args.values.now in
-    let second = subst (λ z. AreWatched n o (get_or c.args.seconds.now c.loop-r.r unwatched) z from count) (sym c.column-column.ensures)
+    let n = g.row.N in let from = c.args.from in let count = length c.args.values.now in
+    let second = subst (λ z. AreWatched n (get_or c.args.seconds.now c.loop-r.r unwatched) z from count) (sym c.column-column.ensures)
     (has.seconds c.loop-r.r below) in
-    let first : AreWatched n o c.over-first.result c.args.left.now from count = c.over-first.ensures in
+    let first : AreWatched n c.over-first.result c.args.left.now from count = c.over-first.ensures in
     (search rules, (has.registers, (has.alone, (has.operator, (has.state, (below, (has.left, (places, (first, (second, has.values))))))))))
 
 pub loop-r-preserved : goal.loop-r-preserved

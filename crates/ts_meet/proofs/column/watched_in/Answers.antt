@@ -2,7 +2,6 @@ use Rattle.std.proofs.Common.{◌+◌, ◌<◌, ℕ, [], get_or, sym, subst, ◌
 use Rattle.std.proofs.lemmas.List.{length-set}
 use Rattle.ts_glue.proofs.Calls.{filled_more}
 use Rattle.ts_meet.specs.declared.column.Watched.{Watched}
-use Rattle.ts_meet.specs.Joints.{numbered}
 use Rattle.ts_meet.specs.Peaks.{AreWatched, unwatched}
 use Rattle.ts_meet.specs.Settled.{ArePlaces}
 use Rattle.ts_meet.proofs.column.watched_in.Goals as goal
@@ -20,13 +19,13 @@ over-requires g c =
 
 pub loop-q-preserved : goal.loop-q-preserved
 loop-q-preserved g c =
-    let n = g.row.N in let o = numbered g.row.O in let a = c.args in
+    let n = g.row.N in let a = c.args in
     let long = c.loop-q.invariant.0 in let before = c.loop-q-test.true in let end = c.loop-q.auto.q-end in
     let few = c.requires.few in let made = c.over.result in
-    let there : ℕ → Watched → Type 0 = λ q k. AreWatched n o k (get_or a.row.now q []) a.from a.count in (
+    let there : ℕ → Watched → Type 0 = λ q k. AreWatched n k (get_or a.row.now q []) a.from a.count in (
       length-set c.loop-q.all c.loop-q.q made ∙ long,
       filled_more there c.loop-q.all c.loop-q.q made unwatched (omega (arith, long, few, before, end)) c.loop-q.invariant.1
-          (subst (λ z. AreWatched n o made z a.from a.count) c.column.ensures c.over.ensures),
+          (subst (λ z. AreWatched n made z a.from a.count) c.column.ensures c.over.ensures),
     )
 
 pub returns : goal.returns

@@ -1,8 +1,7 @@
-use Rattle.std.proofs.Common.{subst}
-use Rattle.ts_meet.specs.Peaks.{IsKnown}
+use Rattle.ts_meet.specs.Sides.{ends_in}
+use Rattle.ts_meet.proofs.Watched.{plain_within}
 use Rattle.ts_meet.proofs.gluing.Gluing.is_plain_within.Goals as goal
 
-pub returns-then-self : goal.returns-then-self
-returns-then-self c a b is u v =
-    c.is_spread_small.ensures a b is
-    (subst (λ w. IsKnown c.args.self.result w a) c.in-Wide-Wide.is-0 u) (subst (λ w. IsKnown c.args.self.result w b) c.in-Wide-Wide.is-1 v)
+pub returns : goal.returns
+returns c a b is u v =
+    plain_within c.args.self (ends_in c.args.left.peaks) (ends_in c.args.right.peaks) a b c.requires (c.is_joined_plain.ensures is) u v
