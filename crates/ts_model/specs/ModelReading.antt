@@ -1,6 +1,7 @@
 -- The model that a text states, or its first bad line with the first kind that holds of it.
-use Rattle.std.specs.Prelude.{◌≡◌, ℕ, ◌<◌, Bool, false, true, not, ◌&&◌, List, [], ◌∷◌, ◌+◌, ◌⊎◌, map, take, slice_get, if◌then◌else◌, Option, Some, None, Result, Ok, Err, is_none}
+use Rattle.std.specs.Prelude.{◌≡◌, ℕ, Bool, false, true, not, ◌&&◌, List, [], ◌∷◌, ◌+◌, ◌⊎◌, map, if◌then◌else◌, Option, Some, None, Result, Ok, Err, is_none}
 use Rattle.ts_token.specs.Text.{Piece, Row, Cut, cut_of, rows_from, not_text_from}
+use Rattle.ts_token.specs.FirstBad.{AreGood, FirstBad, with_rows}
 use Rattle.ts_model.specs.declared.words.Form.{Form}
 use Rattle.ts_model.specs.declared.model.Need.{Need}
 use Rattle.ts_model.specs.declared.model.Need.TheVariants.{Values, List as Listing, Best}
@@ -26,22 +27,17 @@ texts_of ws = map (λ w. w.text) ws
 
 -- The first bad line, by one test for each kind over a line's words and what the lines before it state.
 
-abbrev pub said_onto : Result Meaning ModelKind → List Meaning → List Meaning
-said_onto (Err k) rest = rest
-said_onto (Ok s) rest = s ∷ rest
+-- what is stated with what a line says, if it says something
+abbrev pub with_said : ModelParts → Result Meaning ModelKind → ModelParts
+with_said m (Err k) = m
+with_said m (Ok s) = with_meaning m s
 
--- what lines say
-abbrev pub said_lines : List Row → List Meaning
-said_lines [] = []
-said_lines (row ∷ rows) = said_onto (meaning_in (texts_of row.words)) (said_lines rows)
-
-abbrev pub stated_after : ModelParts → List Meaning → ModelParts
-stated_after m [] = m
-stated_after m (s ∷ ss) = stated_after (with_meaning m s) ss
+abbrev pub with_row : ModelParts → Row → ModelParts
+with_row m row = with_said m (meaning_in (texts_of row.words))
 
 -- what lines state
 abbrev pub so_far : List Row → ModelParts
-so_far rows = stated_after nothing (said_lines rows)
+so_far rows = with_rows with_row nothing rows
 
 abbrev pub form_at : List (List ℕ) → Option Form
 form_at [] = None
@@ -76,20 +72,6 @@ kinds_of lists m words =
 abbrev pub kind_at : Bool → List Row → Row → Option ModelKind
 kind_at lists before row = first_kind (kinds_of lists (so_far before) (texts_of row.words))
 
--- no kind holds of any of the lines
-abbrev pub AreGood : Bool → List Row → Type 0
-AreGood lists rows = (i : ℕ) (row : Row) → slice_get rows i ≡ Some row → kind_at lists (take i rows) row ≡ None
-
--- the first bad line has this number, and the first kind that holds of it is this one
-pub record FirstBad (lists : Bool) (rows : List Row) (line : ℕ) (kind : ModelKind) : Type 0 where
-  pub place : ℕ
-  pub row : Row
-  pub is_there : slice_get rows place ≡ Some row
-  pub number : row.number ≡ line
-  pub kind_is : kind_at lists (take place rows) row ≡ Some kind
-  pub first : (i : ℕ) (earlier : Row) → i < place → slice_get rows i ≡ Some earlier →
-      kind_at lists (take i rows) earlier ≡ None
-
 -- how a text is refused of which every line of words is good: by its first line that isn't text, if there is one,
 -- else for want of cells, else for want of an objective that is needed
 abbrev pub IsEnd : Need → Cut → Option ℕ → ℕ → ModelKind → Type 0
@@ -102,13 +84,13 @@ IsEnd need c None line kind =
 -- a text is refused so
 abbrev pub IsRefused : Need → Cut → ℕ → ModelKind → Type 0
 IsRefused need c line kind =
-    FirstBad (needs_lists need) c.rows line kind ⊎
-    (AreGood (needs_lists need) c.rows × IsEnd need c c.not_text line kind)
+    FirstBad (kind_at (needs_lists need)) c.rows line kind ⊎
+    (AreGood (kind_at (needs_lists need)) c.rows × IsEnd need c c.not_text line kind)
 
 -- a text states this model
 abbrev pub IsModel : Need → Cut → ModelParts → Type 0
 IsModel need c m =
-    AreGood (needs_lists need) c.rows × (c.not_text ≡ None) × (has_cells m ≡ true) ×
+    AreGood (kind_at (needs_lists need)) c.rows × (c.not_text ≡ None) × (has_cells m ≡ true) ×
     ((needs_objective need && is_none m.objective) ≡ false) × (m ≡ so_far c.rows)
 
 -- what a text reads as

@@ -9,3 +9,5 @@ pub mod Contents
 pub mod Places
 pub mod Short
 pub mod Singles
+pub mod FirstBad
+pub mod FirstBadLaws

@@ -1,49 +1,21 @@
 -- A text has one reading.
-use Rattle.std.proofs.Common.{◌≡◌, ℕ, ◌<◌, Bool, inl, inr, ⊎_elim, Option, Some, None, Ok, Err, List, take, sym, ap, ◌∙◌, arith}
-use Rattle.std.specs.Prelude.{Result, slice_get}
-use Rattle.std.proofs.str.Laws.{order}
+use Rattle.std.proofs.Common.{◌≡◌, ℕ, inl, inr, Option, Some, None, Ok, Err, sym, ap, ◌∙◌}
+use Rattle.std.specs.Prelude.{Result}
 use Rattle.std.proofs.lemmas.Option.{same_Some}
-use Rattle.ts_token.specs.Text.{Row, Cut}
+use Rattle.ts_token.specs.Text.{Cut}
+use Rattle.ts_token.specs.FirstBadLaws.{good_bad, one_bad}
 use Rattle.ts_user.specs.declared.user_stop.UserKind.{UserKind}
 use Rattle.ts_user.specs.Stated.{Described}
-use Rattle.ts_user.specs.PatternReading.{is_alone, so_far, kind_at, AreGood, FirstBad, end_kind, IsEnd, IsRefused, IsPattern, IsReading}
-
--- no line is bad where all are good
-good_bad : (alone : Bool) (rows : List Row) (line : ℕ) (kind : UserKind) → AreGood alone rows → FirstBad alone rows line kind → ⊥
-good_bad alone rows line kind good bad =
-    let none = good bad.place bad.row bad.is_there in
-    let some = bad.kind_is in
-    cc
-
-earlier : (alone : Bool) (rows : List Row) (l k : ℕ) (a b : UserKind) (x : FirstBad alone rows l a) (y : FirstBad alone rows k b) → x.place < y.place → ⊥
-earlier alone rows l k a b x y h =
-    let none = y.first x.place x.row h x.is_there in
-    let some = x.kind_is in
-    cc
-
--- two first bad lines are one
-one_place : (alone : Bool) (rows : List Row) (l k : ℕ) (a b : UserKind) (x : FirstBad alone rows l a) (y : FirstBad alone rows k b) → x.place ≡ y.place
-one_place alone rows l k a b x y = nat_cases x.place y.place (earlier alone rows l k a b x y) (earlier alone rows k l b a y x)
-  where
-    nat_cases : (m n : ℕ) → (m < n → ⊥) → (n < m → ⊥) → m ≡ n
-    nat_cases m n f g = ⊎_elim (λ h. absurd (f h)) (λ h. ⊎_elim (λ h'. absurd (g h')) (λ h'. omega arith) (order n m)) (order m n)
-
-one_bad : (alone : Bool) (rows : List Row) (l k : ℕ) (a b : UserKind) → FirstBad alone rows l a → FirstBad alone rows k b → (l ≡ k) × (a ≡ b)
-one_bad alone rows l k a b x y =
-    let place = one_place alone rows l k a b x y in
-    let row : x.row ≡ y.row = same_Some x.row y.row (sym x.is_there ∙ ap (slice_get rows) place ∙ y.is_there) in
-    let kind : ◌≡◌ {A = Option UserKind} (Some a) (Some b) =
-    sym x.kind_is ∙ ap (λ (n : ℕ). kind_at alone (take n rows) x.row) place ∙ ap (kind_at alone (take y.place rows)) row ∙ y.kind_is in
-    (sym x.number ∙ ap (λ (r : Row). r.number) row ∙ y.number, same_Some a b kind)
+use Rattle.ts_user.specs.PatternReading.{is_alone, so_far, kind_at, end_kind, IsEnd, IsRefused, IsPattern, IsReading}
 
 one_end : (c : Cut) (bad : Option ℕ) (l k : ℕ) (a b : UserKind) → IsEnd c bad l a → IsEnd c bad k b → (l ≡ k) × (a ≡ b)
 one_end c (Some line) l k a b x y = (x.0 ∙ sym y.0, x.1 ∙ sym y.1)
 one_end c None l k a b x y = (x.0 ∙ sym y.0, same_Some a b (sym x.1 ∙ y.1))
 
 one_refusal : (c : Cut) (l k : ℕ) (a b : UserKind) → IsRefused c l a → IsRefused c k b → (l ≡ k) × (a ≡ b)
-one_refusal c l k a b (inl x) (inl y) = one_bad (is_alone c) c.rows l k a b x y
-one_refusal c l k a b (inl x) (inr y) = absurd (good_bad (is_alone c) c.rows l a y.0 x)
-one_refusal c l k a b (inr x) (inl y) = absurd (good_bad (is_alone c) c.rows k b x.0 y)
+one_refusal c l k a b (inl x) (inl y) = one_bad (kind_at (is_alone c)) c.rows l k a b x y
+one_refusal c l k a b (inl x) (inr y) = absurd (good_bad (kind_at (is_alone c)) c.rows l a y.0 x)
+one_refusal c l k a b (inr x) (inl y) = absurd (good_bad (kind_at (is_alone c)) c.rows k b x.0 y)
 one_refusal c l k a b (inr x) (inr y) = one_end c c.not_text l k a b x.1 y.1
 
 not_both_end : (c : Cut) (bad : Option ℕ) (l : ℕ) (a : UserKind) → bad ≡ None → end_kind (so_far c.rows) ≡ None → IsEnd c bad l a → ⊥
@@ -51,7 +23,7 @@ not_both_end c (Some line) l a text fits e = cc
 not_both_end c None l a text fits e = let p = e.1 in cc
 
 not_both : (c : Cut) (d : Described) (l : ℕ) (a : UserKind) → IsPattern c d → IsRefused c l a → ⊥
-not_both c d l a good (inl bad) = good_bad (is_alone c) c.rows l a good.0 bad
+not_both c d l a good (inl bad) = good_bad (kind_at (is_alone c)) c.rows l a good.0 bad
 not_both c d l a good (inr e) = not_both_end c c.not_text l a good.1 good.2 e.1
 
 -- there is one reading

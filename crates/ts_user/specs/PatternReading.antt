@@ -1,6 +1,7 @@
 -- The pattern that a text states, or its first bad line with the first kind that holds of it.
-use Rattle.std.specs.Prelude.{◌≡◌, ℕ, ◌+◌, ◌<◌, ◌==◌, Bool, false, not, ◌&&◌, List, [], ◌∷◌, ◌⊎◌, length, map, take, slice_get, Option, Some, None, Result, Ok, Err, is_none}
+use Rattle.std.specs.Prelude.{◌≡◌, ℕ, ◌+◌, ◌==◌, Bool, false, not, ◌&&◌, List, [], ◌∷◌, ◌⊎◌, length, map, Option, Some, None, Result, Ok, Err, is_none}
 use Rattle.ts_token.specs.Text.{Piece, Row, Cut, cut_of}
+use Rattle.ts_token.specs.FirstBad.{AreGood, FirstBad, with_rows}
 use Rattle.ts_user.specs.declared.words.Form.{Form}
 use Rattle.ts_user.specs.declared.user_stop.UserKind.{UserKind}
 use Rattle.ts_user.specs.declared.user_stop.UserKind.TheVariants.{NotText, UnknownLine, Shape, Expression, Number}
@@ -17,22 +18,17 @@ is_alone c = (length c.rows == 1) && is_none c.not_text
 
 -- The first bad line, by one test for each kind over a line's words and what the lines before it state.
 
-abbrev pub said_onto : Result Meaning UserKind → List Meaning → List Meaning
-said_onto (Err k) rest = rest
-said_onto (Ok s) rest = s ∷ rest
+-- what is stated with what a line says, if it says something
+abbrev pub with_said : Stated → Result Meaning UserKind → Stated
+with_said m (Err k) = m
+with_said m (Ok s) = with_meaning m s
 
--- what lines say
-abbrev pub said_lines : List Row → List Meaning
-said_lines [] = []
-said_lines (row ∷ rows) = said_onto (meaning_in (texts_of row.words)) (said_lines rows)
-
-abbrev pub stated_after : Stated → List Meaning → Stated
-stated_after m [] = m
-stated_after m (s ∷ ss) = stated_after (with_meaning m s) ss
+abbrev pub with_row : Stated → Row → Stated
+with_row m row = with_said m (meaning_in (texts_of row.words))
 
 -- what lines state
 abbrev pub so_far : List Row → Stated
-so_far rows = stated_after nothing (said_lines rows)
+so_far rows = with_rows with_row nothing rows
 
 abbrev pub form_at : List (List ℕ) → Option Form
 form_at [] = None
@@ -72,20 +68,6 @@ kinds_of alone m words =
 abbrev pub kind_at : Bool → List Row → Row → Option UserKind
 kind_at alone before row = first_kind (kinds_of alone (so_far before) (texts_of row.words))
 
--- no kind holds of any of the lines
-abbrev pub AreGood : Bool → List Row → Type 0
-AreGood alone rows = (i : ℕ) (row : Row) → slice_get rows i ≡ Some row → kind_at alone (take i rows) row ≡ None
-
--- the first bad line has this number, and the first kind that holds of it is this one
-pub record FirstBad (alone : Bool) (rows : List Row) (line : ℕ) (kind : UserKind) : Type 0 where
-  pub place : ℕ
-  pub row : Row
-  pub is_there : slice_get rows place ≡ Some row
-  pub number : row.number ≡ line
-  pub kind_is : kind_at alone (take place rows) row ≡ Some kind
-  pub first : (i : ℕ) (earlier : Row) → i < place → slice_get rows i ≡ Some earlier →
-      kind_at alone (take i rows) earlier ≡ None
-
 -- the first kind that holds at the end of a text whose lines state m
 abbrev pub end_kind : Stated → Option UserKind
 end_kind m = first_kind (end_kinds m (described m))
@@ -99,12 +81,13 @@ IsEnd c None line kind = (line ≡ c.count + 1) × (end_kind (so_far c.rows) ≡
 -- a text is refused at this line, with this kind
 abbrev pub IsRefused : Cut → ℕ → UserKind → Type 0
 IsRefused c line kind =
-    FirstBad (is_alone c) c.rows line kind ⊎ (AreGood (is_alone c) c.rows × IsEnd c c.not_text line kind)
+    FirstBad (kind_at (is_alone c)) c.rows line kind ⊎
+    (AreGood (kind_at (is_alone c)) c.rows × IsEnd c c.not_text line kind)
 
 -- a text states this pattern
 abbrev pub IsPattern : Cut → Described → Type 0
 IsPattern c d =
-    AreGood (is_alone c) c.rows × (c.not_text ≡ None) × (end_kind (so_far c.rows) ≡ None)
+    AreGood (kind_at (is_alone c)) c.rows × (c.not_text ≡ None) × (end_kind (so_far c.rows) ≡ None)
     × (d ≡ described (so_far c.rows))
 
 -- what a text reads as
