@@ -163,6 +163,12 @@ answer_packs m P number packs wide o a takes e is s p =
     subst (λ z. IsPackOf z (value_in sealed_spans s (pos 0) (pos 0) (result_of wide o))) (sym is)
     (value_packs m P number packs (result_of wide o) a s (answer_cells wide o) takes p)
 
+-- the whole of an occurrence is in its fold
+pub whole_taken : (m : Values Ends) (P : Operator → Ends → Ends → Type 0) (a b : EachOf Ends) (wide : Bool) (o : Op) (part : Op → Part → Glue) →
+    GlueTakes P m a b (fold_of wide o part) → GlueTakes P m a b (part o Whole)
+whole_taken m P a b true o part h = h.0
+whole_taken m P a b false o part h = h
+
 -- sums of any numbers take all
 
 pub any_value : (m : Values Ends) (a : EachOf Ends) (f : Formula) → Takes TakesAny m a (pos 0) (pos 0) f

@@ -395,13 +395,12 @@ impl Gluing {
         ensures { result ≡ glue_in plain_values (ends_in left) (ends_in right)
             (fold_of WIDE (K.fold k) (part_by self)) }
     {
+        let whole = self.part_near::<OfWhole, K, TRIMS>(k, left, right);
         if WIDE {
-            less_near(
-                self.part_near::<OfWhole, K, TRIMS>(k, left, right),
-                self.part_near::<OfAway, Lesser, TRIMS>(Lesser, left, right),
-            )
+            let away = self.part_near::<OfAway, Lesser, TRIMS>(Lesser, left, right);
+            less_near(whole, away)
         } else {
-            self.part_near::<OfWhole, K, TRIMS>(k, left, right)
+            whole
         }
     }
 
